@@ -1,3 +1,4 @@
+pub mod Only
 pub mod Literals
 pub mod Exponents
 pub mod Signs
