@@ -4,15 +4,15 @@ use mathlib.Core.Path.{_≡_}
 use Prim.Native.Nat.{ℕ, zero, suc, _-_, _*_, _/_, _^_, _≤_, _<_}
 use mathlib.Core.Bool.{false, cond}
 use lib.Dec.{T, ltb}
-use lib.IntN.{ℤ, negsuc}
+use lib.IntN.{ℤ}
 use lib.Ieee.{Float, nan, inf, fin, binary64, up, down, minus, size, odd, ofInt, fits}
 use lib.Ieee.Exact.{HasValue}
 use Rattle.arith.specs.F64.{f64, _⊕_, _⊖_, _⊗_, _⊘_}
-use Rattle.arith.specs.Printed.{printed}
+use Rattle.arith.specs.Printed.{less, printed}
 
 -- L, the f64 nearest 0.693147180559945309417, for ln 2
 unfoldable pub ln2 : Float
-ln2 = printed false 693147180559945309417 (negsuc 20)
+ln2 = printed false 693147180559945309417 (less 21)
 
 -- t = 1/23, and then j times t = t · q + 1/d, for d = 21, 19, ..
 unfoldable pub series : Float → ℕ → Float
