@@ -1,0 +1,73 @@
+//! Numbers that look random and are the same everywhere: the splitmix64 generator
+//! and what is drawn from it. Only whole-number and plain f64 operations are used.
+
+/// A generator with its own state; equal seeds give equal sequences.
+pub struct Random(u64);
+
+impl Random {
+    pub fn new(seed: u64) -> Self {
+        Random(seed)
+    }
+
+    /// The next 64 bits (splitmix64).
+    pub fn bits(&mut self) -> u64 {
+        self.0 = self.0.wrapping_add(0x9e37_79b9_7f4a_7c15);
+        let mixed = (self.0 ^ (self.0 >> 30)).wrapping_mul(0xbf58_476d_1ce4_e5b9);
+        let mixed = (mixed ^ (mixed >> 27)).wrapping_mul(0x94d0_49bb_1331_11eb);
+        mixed ^ (mixed >> 31)
+    }
+
+    /// A whole number below `limit`.
+    pub fn below(&mut self, limit: usize) -> usize {
+        (self.bits() % limit as u64) as usize
+    }
+
+    /// One of the given things.
+    pub fn pick<T: Copy>(&mut self, things: &[T]) -> T {
+        things[self.below(things.len())]
+    }
+
+    /// Uniform in `low` to `high`.
+    pub fn between(&mut self, low: f64, high: f64) -> f64 {
+        let unit = (self.bits() >> 11) as f64 / (1_u64 << 53) as f64;
+        low + (high - low) * unit
+    }
+
+    /// About log-uniform in `low` to `high`, both positive: uniform in the bits.
+    pub fn log_between(&mut self, low: f64, high: f64) -> f64 {
+        let (low, high) = (low.to_bits(), high.to_bits());
+        f64::from_bits(low + self.bits() % (high - low + 1))
+    }
+
+    /// The number itself or one of the two next to it.
+    pub fn next_to(&mut self, x: f64) -> f64 {
+        self.pick(&[x.next_down(), x, x.next_up()])
+    }
+
+    /// A number with any bits whatever.
+    pub fn any(&mut self) -> f64 {
+        f64::from_bits(self.bits())
+    }
+}
+
+#[cfg(test)]
+mod tests {
+    use super::*;
+
+    #[test]
+    fn the_sequence_is_splitmix64() {
+        let mut random = Random::new(0);
+        assert_eq!(random.bits(), 0xe220_a839_7b1d_cdaf);
+        assert_eq!(random.bits(), 0x6e78_9e6a_a1b9_65f4);
+    }
+
+    #[test]
+    fn draws_stay_in_their_ranges() {
+        let mut random = Random::new(1);
+        for _ in 0..1000 {
+            assert!((2.0..=3.0).contains(&random.between(2.0, 3.0)));
+            assert!((1e-6..=100.0).contains(&random.log_between(1e-6, 100.0)));
+            assert!(random.below(7) < 7);
+        }
+    }
+}

@@ -1,0 +1,21 @@
+//! What each program must print for a given standard input.
+
+mod numbers;
+
+use crate::Program;
+
+/// The text that `program` must print.
+pub fn of(program: Program, input: &[u8]) -> String {
+    match program {
+        Program::Arithmetic => numbers::listing(input),
+    }
+}
+
+/// An f64 as the 16 lower-case hex digits of its bits; any NaN as `nan`.
+fn hex(x: f64) -> String {
+    if x.is_nan() {
+        "nan".to_string()
+    } else {
+        format!("{:016x}", x.to_bits())
+    }
+}
