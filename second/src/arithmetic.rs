@@ -66,10 +66,7 @@ mod tests {
         assert_eq!(power(-0.0, -3), f64::NEG_INFINITY);
         let x = 1.1_f64;
         assert_eq!(power(x, 5), (((x * x) * x) * x) * x);
-        assert_eq!(
-            power(1.0 + f64::EPSILON, -128),
-            1.0 / power(1.0 + f64::EPSILON, 128)
-        );
+        assert_eq!(power(1.0 + f64::EPSILON, -128), 1.0 / power(1.0 + f64::EPSILON, 128));
     }
 
     #[test]
@@ -94,17 +91,7 @@ mod tests {
     fn logarithms_are_close_and_have_their_domain() {
         assert_eq!(logarithm(1.0), 0.0);
         assert_eq!(logarithm(2.0), LN_2);
-        for x in [
-            0.0035_f64,
-            0.5,
-            0.75,
-            1.4999,
-            1.5,
-            8.0,
-            30.0,
-            1e300,
-            f64::MIN_POSITIVE,
-        ] {
+        for x in [0.0035_f64, 0.5, 0.75, 1.4999, 1.5, 8.0, 30.0, 1e300, f64::MIN_POSITIVE] {
             assert!((logarithm(x) - x.ln()).abs() <= 1e-14 * x.ln().abs().max(1.0));
         }
         for x in [0.0, -0.0, -1.0, 1e-310, f64::INFINITY, f64::NAN] {

@@ -9,5 +9,6 @@ use crate::Program;
 pub fn of(program: Program, seed: u64, count: usize) -> Vec<u8> {
     match program {
         Program::Arithmetic => numbers::records(seed, count),
+        Program::CheckValues => Vec::new(),
     }
 }

@@ -5,8 +5,12 @@
 //!     second outputs NAME < file
 
 mod arithmetic;
+mod backward;
+mod basic;
 mod inputs;
 mod outputs;
+mod sums;
+mod tables;
 
 use std::env;
 use std::io::{self, Read, Write};
@@ -18,12 +22,14 @@ const USAGE: &str = "usage: second inputs NAME SEED COUNT\n       second outputs
 #[derive(Clone, Copy)]
 pub enum Program {
     Arithmetic,
+    CheckValues,
 }
 
 impl Program {
     fn named(name: &str) -> Option<Program> {
         match name {
             "arithmetic" => Some(Program::Arithmetic),
+            "check_values" => Some(Program::CheckValues),
             _ => None,
         }
     }

@@ -1,5 +1,6 @@
 //! What each program must print for a given standard input.
 
+mod check_values;
 mod numbers;
 
 use crate::Program;
@@ -8,6 +9,7 @@ use crate::Program;
 pub fn of(program: Program, input: &[u8]) -> String {
     match program {
         Program::Arithmetic => numbers::listing(input),
+        Program::CheckValues => check_values::listing(),
     }
 }
 
