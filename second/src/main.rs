@@ -4,11 +4,17 @@
 //!     second inputs NAME SEED COUNT > file
 //!     second outputs NAME < file
 
+mod answers;
 mod arithmetic;
 mod backward;
 mod basic;
+mod derivatives;
+mod desk;
 mod inputs;
 mod outputs;
+mod refusals;
+mod regions;
+mod sheets;
 mod sums;
 mod tables;
 

@@ -1,0 +1,396 @@
+//! The desk of 01: eight callers, 32 rows, one halving a turn.
+
+use crate::answers::{verified, Single};
+use crate::basic::{b23_temperature, saturation_temperature, Region};
+use crate::refusals::{
+    Refusal, FOUR_OPEN, NOT_OPEN, NOT_READY, NOT_SINGLE, NOT_SOUND, TICKETS_SPENT, UNKNOWN,
+};
+use crate::regions::{from_py, highest_saturation_pressure, Place, Quantity, T_13, T_25, T_LOWEST};
+
+/// Callers are 0 to 7.
+pub const CALLERS: usize = 8;
+/// Rows of a desk.
+pub const ROWS: usize = 32;
+/// The most tickets a caller may have open.
+const OPEN_TICKETS: usize = 4;
+/// The most tickets a caller is ever given.
+pub const MOST_TICKETS: u64 = 1_000_000;
+/// Halvings after which a job is ready.
+pub const HALVINGS: u64 = 40;
+
+/// One row. An empty row of a new desk holds 0 in every field; the other fields of an
+/// empty row mean nothing.
+#[derive(Clone, Copy, Debug, Default, PartialEq)]
+pub struct Row {
+    pub filled: bool,
+    pub caller: u64,
+    pub ticket: u64,
+    pub kind: u64,
+    pub region: u64,
+    pub p: f64,
+    pub y: f64,
+    pub halvings: u64,
+    pub lo: f64,
+    pub hi: f64,
+}
+
+/// The desk as the host keeps it between calls.
+#[derive(Clone, Copy, Debug, Default, PartialEq)]
+pub struct Desk {
+    pub pointer: u64,
+    pub counts: [u64; CALLERS],
+    pub rows: [Row; ROWS],
+}
+
+/// What a turn did.
+#[derive(Clone, Copy, Debug, PartialEq, Eq)]
+pub enum Turned {
+    Halved,
+    Idle,
+}
+
+/// What a peek shows.
+#[derive(Clone, Copy, Debug, PartialEq)]
+pub struct Peeked {
+    pub halvings: u64,
+    pub lo: f64,
+    pub hi: f64,
+}
+
+/// What a collect hands out.
+#[derive(Clone, Copy, Debug, PartialEq)]
+pub struct Collected {
+    pub state: Single,
+    pub verified: bool,
+}
+
+impl Row {
+    /// Whether a filled row's own numbers are allowed beside the ticket counts.
+    fn is_sound(&self, counts: &[u64; CALLERS]) -> bool {
+        let count = usize::try_from(self.caller).ok().and_then(|caller| counts.get(caller));
+        count.is_some_and(|&count| self.ticket < count)
+            && matches!(self.region, 1 | 2)
+            && matches!(self.kind, 2 | 3)
+            && self.halvings <= HALVINGS
+    }
+
+    fn holds(&self, caller: u64, ticket: u64) -> bool {
+        self.filled && self.caller == caller && self.ticket == ticket
+    }
+
+    fn is_unfinished(&self) -> bool {
+        self.filled && self.halvings < HALVINGS
+    }
+
+    /// The region of a sound row.
+    fn region(&self) -> Region {
+        if self.region == 1 {
+            Region::One
+        } else {
+            Region::Two
+        }
+    }
+
+    /// What a sound row asks for.
+    fn quantity(&self) -> Quantity {
+        if self.kind == 2 {
+            Quantity::Enthalpy
+        } else {
+            Quantity::Entropy
+        }
+    }
+
+    fn middle(&self) -> f64 {
+        (self.lo + self.hi) / 2.0
+    }
+
+    /// One halving: if y(p,mid) < y asked, lo = mid, else hi = mid.
+    fn halve(&mut self) {
+        let middle = self.middle();
+        if self.quantity().at(self.region(), self.p, middle) < self.y {
+            self.lo = middle;
+        } else {
+            self.hi = middle;
+        }
+        self.halvings += 1;
+    }
+
+    /// The state at the middle of the last bracket.
+    fn settled(&self) -> Collected {
+        let state = Single::at(self.region(), self.p, self.middle());
+        let back = (state.properties.h, state.properties.s);
+        Collected { state, verified: verified(self.quantity(), back, self.y) }
+    }
+}
+
+impl Desk {
+    /// A new desk: every row empty, every number 0.
+    pub fn new() -> Desk {
+        Desk::default()
+    }
+
+    /// Whether the desk is sound. Only filled rows are judged, and not their p, y, lo, hi.
+    pub fn is_sound(&self) -> bool {
+        let filled: Vec<&Row> = self.rows.iter().filter(|row| row.filled).collect();
+        self.pointer < ROWS as u64
+            && self.counts.iter().all(|&count| count <= MOST_TICKETS)
+            && filled.iter().all(|row| row.is_sound(&self.counts))
+            && filled.iter().all(|row| self.open(row.caller) <= OPEN_TICKETS)
+            && filled.iter().all(|row| self.held(row.caller, row.ticket) == 1)
+    }
+
+    /// Posts a (p,h) query, kind 2, or a (p,s) query, kind 3; gives the ticket.
+    pub fn post(&mut self, caller: u64, kind: u64, p: f64, y: f64) -> Result<u64, Refusal> {
+        self.admit(caller)?;
+        let quantity = match kind {
+            2 => Quantity::Enthalpy,
+            3 => Quantity::Entropy,
+            _ => return Err(UNKNOWN),
+        };
+        let region = judged(quantity, p, y)?;
+        let ticket = self.counts[caller as usize];
+        if ticket >= MOST_TICKETS {
+            return Err(TICKETS_SPENT);
+        }
+        if self.open(caller) >= OPEN_TICKETS {
+            return Err(FOUR_OPEN);
+        }
+        let (lo, hi) = bracket(region, p);
+        let region = region.number();
+        let row = Row { filled: true, caller, ticket, kind, region, p, y, halvings: 0, lo, hi };
+        let free = self.rows.iter_mut().find(|row| !row.filled);
+        *free.expect("callers within their limit leave a row free") = row;
+        self.counts[caller as usize] += 1;
+        Ok(ticket)
+    }
+
+    /// Gives one halving to the first unfinished row at or after the pointer.
+    pub fn turn(&mut self) -> Result<Turned, Refusal> {
+        self.judge()?;
+        let start = self.pointer as usize;
+        let mut round = (start..ROWS).chain(0..start);
+        match round.find(|&index| self.rows[index].is_unfinished()) {
+            Some(index) => {
+                self.rows[index].halve();
+                self.pointer = ((index + 1) % ROWS) as u64;
+                Ok(Turned::Halved)
+            }
+            None => Ok(Turned::Idle),
+        }
+    }
+
+    /// Shows how far a job is.
+    pub fn peek(&self, caller: u64, ticket: u64) -> Result<Peeked, Refusal> {
+        let Row { halvings, lo, hi, .. } = self.rows[self.find(caller, ticket)?];
+        Ok(Peeked { halvings, lo, hi })
+    }
+
+    /// Hands out a finished job's state and frees its row.
+    pub fn collect(&mut self, caller: u64, ticket: u64) -> Result<Collected, Refusal> {
+        let index = self.find(caller, ticket)?;
+        if self.rows[index].is_unfinished() {
+            return Err(NOT_READY);
+        }
+        let collected = self.rows[index].settled();
+        self.rows[index] = Row::default();
+        Ok(collected)
+    }
+
+    /// Frees a job's row, finished or not.
+    pub fn withdraw(&mut self, caller: u64, ticket: u64) -> Result<(), Refusal> {
+        let index = self.find(caller, ticket)?;
+        self.rows[index] = Row::default();
+        Ok(())
+    }
+
+    fn judge(&self) -> Result<(), Refusal> {
+        if self.is_sound() {
+            Ok(())
+        } else {
+            Err(NOT_SOUND)
+        }
+    }
+
+    fn admit(&self, caller: u64) -> Result<(), Refusal> {
+        self.judge()?;
+        if caller < CALLERS as u64 {
+            Ok(())
+        } else {
+            Err(UNKNOWN)
+        }
+    }
+
+    /// The row that holds a caller's open ticket.
+    fn find(&self, caller: u64, ticket: u64) -> Result<usize, Refusal> {
+        self.admit(caller)?;
+        self.rows.iter().position(|row| row.holds(caller, ticket)).ok_or(NOT_OPEN)
+    }
+
+    /// How many tickets a caller has open.
+    fn open(&self, caller: u64) -> usize {
+        self.rows.iter().filter(|row| row.filled && row.caller == caller).count()
+    }
+
+    /// How many rows hold a caller's ticket.
+    fn held(&self, caller: u64, ticket: u64) -> usize {
+        self.rows.iter().filter(|row| row.holds(caller, ticket)).count()
+    }
+}
+
+/// The region of a post, or its refusal; a wet query is refused.
+fn judged(quantity: Quantity, p: f64, y: f64) -> Result<Region, Refusal> {
+    match from_py(quantity, p, y)? {
+        Place::Liquid => Ok(Region::One),
+        Place::Vapour => Ok(Region::Two),
+        Place::Wet => Err(NOT_SINGLE),
+    }
+}
+
+/// The temperatures between which a post's state is sought.
+pub fn bracket(region: Region, p: f64) -> (f64, f64) {
+    let meets_saturation = p <= highest_saturation_pressure();
+    match (region, meets_saturation) {
+        (Region::One, true) => (T_LOWEST, saturation_temperature(p)),
+        (Region::One, false) => (T_LOWEST, T_13),
+        (_, true) => (saturation_temperature(p), T_25),
+        (_, false) => (b23_temperature(p), T_25),
+    }
+}
+
+#[cfg(test)]
+mod tests {
+    use super::*;
+    use crate::refusals::{NOT_FINITE, OUT_OF_RANGE, PRESSURE, REGION_3};
+
+    fn with_turns(desk: &mut Desk, turns: usize) {
+        for _ in 0..turns {
+            desk.turn().unwrap();
+        }
+    }
+
+    #[test]
+    fn a_job_is_ready_after_forty_halvings_and_verified() {
+        for (kind, p, y) in [(2, 3.0, 500.0), (3, 80.0, 3.0), (2, 5.0, 3500.0), (3, 0.1, 8.0)] {
+            let mut desk = Desk::new();
+            assert_eq!(desk.post(2, kind, p, y), Ok(0));
+            with_turns(&mut desk, 39);
+            assert_eq!(desk.collect(2, 0), Err(NOT_READY));
+            assert_eq!(desk.turn(), Ok(Turned::Halved));
+            assert_eq!(desk.turn(), Ok(Turned::Idle));
+            let collected = desk.collect(2, 0).unwrap();
+            assert!(collected.verified);
+            assert_eq!(desk.collect(2, 0), Err(NOT_OPEN));
+            assert_eq!(desk.rows, Desk::new().rows);
+        }
+    }
+
+    #[test]
+    fn a_peek_shows_one_halving_for_each_turn() {
+        let mut desk = Desk::new();
+        desk.post(0, 2, 3.0, 500.0).unwrap();
+        let mut width = desk.rows[0].hi - desk.rows[0].lo;
+        for turns in 1..=40 {
+            desk.turn().unwrap();
+            let peeked = desk.peek(0, 0).unwrap();
+            assert_eq!(peeked.halvings, turns);
+            width /= 2.0;
+            assert!((peeked.hi - peeked.lo - width).abs() < 1e-10);
+        }
+    }
+
+    #[test]
+    fn turns_go_round_from_the_pointer() {
+        let mut desk = Desk::new();
+        for caller in 0..3 {
+            desk.post(caller, 2, 3.0, 500.0).unwrap();
+        }
+        with_turns(&mut desk, 4);
+        assert_eq!(desk.rows.map(|row| row.halvings)[..3], [2, 1, 1]);
+        assert_eq!(desk.pointer, 1);
+        desk.rows[2].halvings = HALVINGS;
+        desk.pointer = 2;
+        desk.turn().unwrap();
+        assert_eq!((desk.rows[0].halvings, desk.pointer), (3, 1));
+    }
+
+    #[test]
+    fn the_fifth_open_post_is_refused_and_spends_no_ticket() {
+        let mut desk = Desk::new();
+        for ticket in 0..4 {
+            assert_eq!(desk.post(7, 2, 3.0, 500.0), Ok(ticket));
+        }
+        let before = desk;
+        assert_eq!(desk.post(7, 2, 3.0, 500.0), Err(FOUR_OPEN));
+        assert_eq!(desk, before);
+        desk.withdraw(7, 1).unwrap();
+        assert_eq!(desk.post(7, 2, 3.0, 500.0), Ok(4));
+        assert_eq!(desk.rows[1].ticket, 4);
+    }
+
+    #[test]
+    fn posts_are_refused_in_order() {
+        let mut desk = Desk::new();
+        desk.counts[1] = MOST_TICKETS;
+        assert_eq!(desk.post(8, 1, f64::NAN, 0.0), Err(UNKNOWN));
+        assert_eq!(desk.post(0, 1, f64::NAN, 0.0), Err(UNKNOWN));
+        assert_eq!(desk.post(0, 4, f64::NAN, 0.0), Err(UNKNOWN));
+        assert_eq!(desk.post(1, 2, f64::NAN, 0.0), Err(NOT_FINITE));
+        assert_eq!(desk.post(1, 2, 0.0006, 0.0), Err(PRESSURE));
+        assert_eq!(desk.post(1, 2, 1.0, 1e9), Err(OUT_OF_RANGE));
+        assert_eq!(desk.post(1, 2, 25.0, 2100.0), Err(REGION_3));
+        assert_eq!(desk.post(1, 2, 1.0, 2000.0), Err(NOT_SINGLE));
+        assert_eq!(desk.post(1, 2, 3.0, 500.0), Err(TICKETS_SPENT));
+        desk.pointer = 32;
+        assert_eq!(desk.post(8, 1, f64::NAN, 0.0), Err(NOT_SOUND));
+    }
+
+    #[test]
+    fn soundness_judges_filled_rows_only() {
+        let mut sound = Desk::new();
+        sound.counts[3] = 5;
+        let row = Row { filled: true, caller: 3, ticket: 4, kind: 2, region: 1, ..Row::default() };
+        sound.rows[9] = Row { p: f64::NAN, lo: f64::INFINITY, ..row };
+        sound.rows[0] = Row { caller: 99, halvings: 99, ..Row::default() };
+        assert!(sound.is_sound());
+        let flaws = [
+            Row { caller: 8, ..row },
+            Row { caller: u64::MAX, ..row },
+            Row { ticket: 5, ..row },
+            Row { region: 0, ..row },
+            Row { region: 3, ..row },
+            Row { kind: 1, ..row },
+            Row { kind: 4, ..row },
+            Row { halvings: 41, ..row },
+            row,
+        ];
+        for flaw in flaws {
+            let mut desk = sound;
+            desk.rows[20] = flaw;
+            assert!(!desk.is_sound(), "{flaw:?}");
+        }
+        let mut crowded = sound;
+        for ticket in 0..4 {
+            crowded.rows[ticket] = Row { ticket: ticket as u64, ..row };
+        }
+        assert!(!crowded.is_sound());
+        let mut spent = sound;
+        spent.counts[0] = MOST_TICKETS + 1;
+        assert!(!spent.is_sound());
+    }
+
+    #[test]
+    fn a_row_is_worked_from_its_own_bracket() {
+        let mut desk = Desk::new();
+        desk.post(0, 2, 3.0, 500.0).unwrap();
+        (desk.rows[0].lo, desk.rows[0].hi) = (300.0, 310.0);
+        desk.turn().unwrap();
+        assert_eq!(desk.peek(0, 0), Ok(Peeked { halvings: 1, lo: 305.0, hi: 310.0 }));
+        desk.rows[0].y = f64::NAN;
+        desk.turn().unwrap();
+        assert_eq!(desk.peek(0, 0), Ok(Peeked { halvings: 2, lo: 305.0, hi: 307.5 }));
+        desk.rows[0].halvings = HALVINGS;
+        let collected = desk.collect(0, 0).unwrap();
+        assert_eq!(collected.state.t, 306.25);
+        assert!(!collected.verified);
+    }
+}

@@ -1,0 +1,195 @@
+//! Which region a query lies in: "Regions from (p,T)" and "Regions from (p,h),
+//! (p,s), (h,s)" of 01.
+
+use crate::basic::{
+    b23_pressure, b23_temperature, saturation_pressure, saturation_temperature, Point, Region,
+};
+use crate::refusals::{
+    Refusal, HOT_AND_HIGH, NOT_FINITE, OUT_OF_RANGE, PRESSURE, REGION_3, TEMPERATURE,
+};
+
+/// Lowest temperature, in K.
+pub const T_LOWEST: f64 = 273.15;
+/// Temperature that ends region 1, in K.
+pub const T_13: f64 = 623.15;
+/// Temperature that ends the boundary between regions 2 and 3, in K.
+pub const T_B23: f64 = 863.15;
+/// Temperature that ends region 2, in K.
+pub const T_25: f64 = 1073.15;
+/// Temperature that ends region 5, in K.
+pub const T_HIGHEST: f64 = 2273.15;
+/// Lowest pressure of a (p,T) query, a house limit, in MPa.
+pub const P_LOWEST: f64 = 0.000001;
+/// Lowest pressure of the other queries, in MPa.
+pub const P_LOWEST_BACKWARD: f64 = 0.000611213;
+/// Highest pressure of region 5, in MPa.
+pub const P_REGION_5: f64 = 10.0;
+/// Highest pressure, in MPa.
+pub const P_HIGHEST: f64 = 100.0;
+
+/// What a query gives beside the pressure: the y of 01.
+#[derive(Clone, Copy, Debug, PartialEq, Eq)]
+pub enum Quantity {
+    Enthalpy,
+    Entropy,
+}
+
+impl Quantity {
+    /// y(p,T) by a region's basic equation.
+    pub fn at(self, region: Region, p: f64, t: f64) -> f64 {
+        let point = Point::new(region, p, t);
+        match self {
+            Quantity::Enthalpy => point.h(),
+            Quantity::Entropy => point.s(),
+        }
+    }
+}
+
+/// Where a (p,h) or (p,s) query lies.
+#[derive(Clone, Copy, Debug, PartialEq, Eq)]
+pub enum Place {
+    Liquid,
+    Wet,
+    Vapour,
+}
+
+/// The highest pressure P at which region 1 meets region 2: ps(623.15).
+pub fn highest_saturation_pressure() -> f64 {
+    saturation_pressure(T_13)
+}
+
+/// The region of (p,T).
+pub fn from_pt(p: f64, t: f64) -> Result<Region, Refusal> {
+    if !(p.is_finite() && t.is_finite()) {
+        Err(NOT_FINITE)
+    } else if !(P_LOWEST..=P_HIGHEST).contains(&p) {
+        Err(PRESSURE)
+    } else if !(T_LOWEST..=T_HIGHEST).contains(&t) {
+        Err(TEMPERATURE)
+    } else if t > T_25 {
+        if p > P_REGION_5 {
+            Err(HOT_AND_HIGH)
+        } else {
+            Ok(Region::Five)
+        }
+    } else {
+        below_region_5(p, t)
+    }
+}
+
+/// The region of an in-range (p,T) with T up to 1073.15.
+fn below_region_5(p: f64, t: f64) -> Result<Region, Refusal> {
+    if t <= T_13 {
+        Ok(if p >= saturation_pressure(t) { Region::One } else { Region::Two })
+    } else if t > T_B23 || p <= b23_pressure(t) {
+        Ok(Region::Two)
+    } else {
+        Err(REGION_3)
+    }
+}
+
+/// The place of (p,y).
+pub fn from_py(quantity: Quantity, p: f64, y: f64) -> Result<Place, Refusal> {
+    if !(p.is_finite() && y.is_finite()) {
+        return Err(NOT_FINITE);
+    }
+    if !(P_LOWEST_BACKWARD..=P_HIGHEST).contains(&p) {
+        return Err(PRESSURE);
+    }
+    let lowest = quantity.at(Region::One, p, T_LOWEST);
+    let highest = quantity.at(Region::Two, p, T_25);
+    if y < lowest || y > highest {
+        Err(OUT_OF_RANGE)
+    } else if p <= highest_saturation_pressure() {
+        Ok(beside_saturation(quantity, p, y))
+    } else {
+        beside_region_3(quantity, p, y)
+    }
+}
+
+/// For p ≤ P: liquid below y′, vapour above y″, wet between, both ends included.
+fn beside_saturation(quantity: Quantity, p: f64, y: f64) -> Place {
+    let t = saturation_temperature(p);
+    if y < quantity.at(Region::One, p, t) {
+        Place::Liquid
+    } else if y <= quantity.at(Region::Two, p, t) {
+        Place::Wet
+    } else {
+        Place::Vapour
+    }
+}
+
+/// For p > P: liquid up to y1(p,623.15), vapour from y2(p,TB23(p)), else region 3.
+fn beside_region_3(quantity: Quantity, p: f64, y: f64) -> Result<Place, Refusal> {
+    if y <= quantity.at(Region::One, p, T_13) {
+        Ok(Place::Liquid)
+    } else if y >= quantity.at(Region::Two, p, b23_temperature(p)) {
+        Ok(Place::Vapour)
+    } else {
+        Err(REGION_3)
+    }
+}
+
+#[cfg(test)]
+mod tests {
+    use super::*;
+
+    #[test]
+    fn marked_points_of_01() {
+        assert_eq!(from_pt(f64::NAN, 300.0), Err(NOT_FINITE));
+        assert_eq!(from_pt(0.0, 300.0), Err(PRESSURE));
+        assert_eq!(from_pt(100.0, 273.14), Err(TEMPERATURE));
+        assert_eq!(from_pt(10.0, 1073.15), Ok(Region::Two));
+        assert_eq!(from_pt(10.0, 1500.0), Ok(Region::Five));
+        assert_eq!(from_pt(10.5, 1500.0), Err(HOT_AND_HIGH));
+        assert_eq!(from_pt(100.5, 200.0), Err(PRESSURE));
+        assert_eq!(from_pt(100.0, 900.0), Ok(Region::Two));
+    }
+
+    #[test]
+    fn ties_and_ends_of_pt() {
+        assert_eq!(from_pt(50.0, 2300.0), Err(TEMPERATURE));
+        assert_eq!(from_pt(-0.0, 300.0), Err(PRESSURE));
+        assert_eq!(from_pt(100.0, 1073.15), Ok(Region::Two));
+        assert_eq!(from_pt(saturation_pressure(500.0), 500.0), Ok(Region::One));
+        assert_eq!(from_pt(saturation_pressure(500.0).next_down(), 500.0), Ok(Region::Two));
+        assert_eq!(from_pt(b23_pressure(700.0), 700.0), Ok(Region::Two));
+        assert_eq!(from_pt(b23_pressure(700.0).next_up(), 700.0), Err(REGION_3));
+        assert_eq!(from_pt(50.0, T_13), Ok(Region::One));
+        assert_eq!(from_pt(50.0, T_13.next_up()), Err(REGION_3));
+        assert_eq!(from_pt(P_LOWEST, T_HIGHEST), Ok(Region::Five));
+    }
+
+    #[test]
+    fn a_pressure_below_the_range_is_refused_with_any_finite_enthalpy() {
+        for h in [-1e300, 0.0, 2000.0, 1e300] {
+            assert_eq!(from_py(Quantity::Enthalpy, 0.0006, h), Err(PRESSURE));
+        }
+        assert_eq!(from_py(Quantity::Enthalpy, 0.0006, f64::NAN), Err(NOT_FINITE));
+    }
+
+    #[test]
+    fn both_ends_of_the_wet_range_are_wet() {
+        for quantity in [Quantity::Enthalpy, Quantity::Entropy] {
+            let t = saturation_temperature(1.0);
+            let liquid = quantity.at(Region::One, 1.0, t);
+            let vapour = quantity.at(Region::Two, 1.0, t);
+            assert_eq!(from_py(quantity, 1.0, liquid.next_down()), Ok(Place::Liquid));
+            assert_eq!(from_py(quantity, 1.0, liquid), Ok(Place::Wet));
+            assert_eq!(from_py(quantity, 1.0, vapour), Ok(Place::Wet));
+            assert_eq!(from_py(quantity, 1.0, vapour.next_up()), Ok(Place::Vapour));
+        }
+    }
+
+    #[test]
+    fn both_borders_of_region_3_belong_to_its_neighbours() {
+        for quantity in [Quantity::Enthalpy, Quantity::Entropy] {
+            let liquid = quantity.at(Region::One, 30.0, T_13);
+            let vapour = quantity.at(Region::Two, 30.0, b23_temperature(30.0));
+            assert_eq!(from_py(quantity, 30.0, liquid), Ok(Place::Liquid));
+            assert_eq!(from_py(quantity, 30.0, liquid.next_up()), Err(REGION_3));
+            assert_eq!(from_py(quantity, 30.0, vapour.next_down()), Err(REGION_3));
+            assert_eq!(from_py(quantity, 30.0, vapour), Ok(Place::Vapour));
+        }
+    }
+}
