@@ -3,6 +3,8 @@
 //!
 //!     second inputs NAME SEED COUNT > file
 //!     second outputs NAME < file
+//!
+//! NAME is a program's; `inputs damaged SEED COUNT` makes a whole or damaged sheet.
 
 mod answers;
 mod arithmetic;
@@ -29,6 +31,10 @@ const USAGE: &str = "usage: second inputs NAME SEED COUNT\n       second outputs
 pub enum Program {
     Arithmetic,
     CheckValues,
+    Regions,
+    Answers,
+    Quotients,
+    Replay,
 }
 
 impl Program {
@@ -36,6 +42,10 @@ impl Program {
         match name {
             "arithmetic" => Some(Program::Arithmetic),
             "check_values" => Some(Program::CheckValues),
+            "regions" => Some(Program::Regions),
+            "answers" => Some(Program::Answers),
+            "quotients" => Some(Program::Quotients),
+            "replay" => Some(Program::Replay),
             _ => None,
         }
     }
@@ -62,7 +72,11 @@ fn answer(words: &[&str]) -> Option<io::Result<Vec<u8>>> {
     match words {
         ["inputs", name, seed, count] => {
             let (seed, count) = (seed.parse().ok()?, count.parse().ok()?);
-            Some(Ok(inputs::of(Program::named(name)?, seed, count)))
+            let bytes = match *name {
+                "damaged" => inputs::damaged_sheet(seed, count),
+                _ => inputs::of(Program::named(name)?, seed, count),
+            };
+            Some(Ok(bytes))
         }
         ["outputs", name] => {
             let program = Program::named(name)?;

@@ -1,15 +1,23 @@
 //! What each program must print for a given standard input.
 
 mod check_values;
+mod listings;
 mod numbers;
+mod replay;
 
 use crate::Program;
+
+pub use replay::{LIMIT as REPLAY_LIMIT, MOST_TURNS};
 
 /// The text that `program` must print.
 pub fn of(program: Program, input: &[u8]) -> String {
     match program {
         Program::Arithmetic => numbers::listing(input),
         Program::CheckValues => check_values::listing(),
+        Program::Regions => listings::regions(input),
+        Program::Answers => listings::answers(input),
+        Program::Quotients => listings::quotients(input),
+        Program::Replay => replay::listing(input),
     }
 }
 

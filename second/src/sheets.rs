@@ -4,7 +4,7 @@
 use crate::refusals::{Refusal, LENGTHS, ROOM, ROW_COUNT, ROW_KIND, SHORT_SHEET, VERSION};
 
 /// Bytes of a trailer: row count, distance, version and zero, each u32.
-const TRAILER: usize = 16;
+pub const TRAILER: usize = 16;
 /// Bytes of a row: kind (u64) and two values as f64 bits.
 pub const ROW: usize = 24;
 /// The longest note.

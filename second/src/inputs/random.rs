@@ -44,9 +44,18 @@ impl Random {
         self.pick(&[x.next_down(), x, x.next_up()])
     }
 
-    /// A number with any bits whatever.
+    /// A number with any bits whatever; one in four is infinite or a NaN, one in four
+    /// zero or subnormal.
     pub fn any(&mut self) -> f64 {
-        f64::from_bits(self.bits())
+        const EXPONENT: u64 = 0x7ff << 52;
+        let bits = self.bits();
+        f64::from_bits(match self.below(8) {
+            0 => bits | EXPONENT,
+            1 => (bits | EXPONENT) & !(u64::MAX >> 12),
+            2 => bits & !EXPONENT,
+            3 => bits & !EXPONENT & !(u64::MAX >> 12),
+            _ => bits,
+        })
     }
 }
 
@@ -64,10 +73,17 @@ mod tests {
     #[test]
     fn draws_stay_in_their_ranges() {
         let mut random = Random::new(1);
+        let mut seen = [false; 4];
         for _ in 0..1000 {
+            let any = random.any();
+            seen[0] |= any.is_nan();
+            seen[1] |= any.is_infinite();
+            seen[2] |= any.is_subnormal();
+            seen[3] |= any == 0.0;
             assert!((2.0..=3.0).contains(&random.between(2.0, 3.0)));
             assert!((1e-6..=100.0).contains(&random.log_between(1e-6, 100.0)));
             assert!(random.below(7) < 7);
         }
+        assert_eq!(seen, [true; 4]);
     }
 }
