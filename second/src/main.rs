@@ -6,6 +6,9 @@
 //!
 //! NAME is a program's; `inputs damaged SEED COUNT` makes a whole or damaged sheet.
 
+// Printed decimals stay as they are printed.
+#![allow(clippy::approx_constant, clippy::excessive_precision)]
+
 mod answers;
 mod arithmetic;
 mod backward;

@@ -75,7 +75,7 @@ pub fn write(note: &[u8], rows: &[u8], room: &mut [u8]) -> Result<usize, Refusal
     if rows.len() / ROW > ROWS {
         return Err(ROW_COUNT);
     }
-    if note.len() > NOTE || rows.len() % ROW != 0 {
+    if note.len() > NOTE || !rows.len().is_multiple_of(ROW) {
         return Err(LENGTHS);
     }
     judge_kinds(rows)?;

@@ -9,8 +9,8 @@
 //! stands beside 003's Table 5. ARGUMENTS are the printed decimals, a comma between
 //! two and no space: (p,T), (p,h), (p,s), (h,s), (T), (p), (h) or (s). Both numbers
 //! are written 0.DIGITSEk, the value being 0.DIGITS · 10ᵏ with a first digit that is
-//! not 0, DIGITS as many as the paper prints (9 in 002, 10 in 003 and in A20's
-//! argument), and k in decimal, `-` before it if negative and no sign otherwise.
+//! not 0, DIGITS as many as the paper prints (9 in 002, 10 in 003), and k in decimal
+//! with `-` before it if negative and no sign otherwise; no value is negative.
 //! COMPUTED is the exact binary value rounded to that many digits, ties to even.
 //! Tables come in the order of the papers, points in the order of a table's columns
 //! or rows, a point's properties in the order v, h, u, s, cp, w. The last line is

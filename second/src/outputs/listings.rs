@@ -40,7 +40,7 @@ pub fn answers(input: &[u8]) -> String {
 /// Each row's quotient for each triple z, x, y of bytes in the note.
 pub fn quotients(input: &[u8]) -> String {
     listing(input, |sheet| {
-        if sheet.note.len() % 3 != 0 {
+        if !sheet.note.len().is_multiple_of(3) {
             return Err(LENGTHS);
         }
         let mut text = String::from("row z x y answer value\n");
