@@ -1,0 +1,21 @@
+-- No public call of this crate can give a second result: any two answers that meet its promise are the same, and so is what a lent slice holds then.
+-- `Post` is the promise itself, read off the source, so a promise that said less would fail here. Assumes nothing.
+use mathlib.Core.Path.{sym, _∙_}
+use denote.Ref.{now}
+use Rattle.arith.proofs.Only.{Only}
+use Rattle.text.proofs.Only.{OnlyRoom}
+use Rattle.sheet.proofs.reader.read.Kinds as read-kinds
+use Rattle.sheet.proofs.reader.read.Reads as read
+use Rattle.sheet.proofs.rows.row.Kinds as row-kinds
+use Rattle.sheet.proofs.rows.row.Reads as row
+use Rattle.sheet.proofs.writer.write.Kinds as write-kinds
+use Rattle.sheet.proofs.writer.write.Reads as write
+
+pub read-only : Only 1 read-kinds.ps read-kinds.r read.Post
+read-only κs a x y s t p q = p ∙ sym q
+
+pub row-only : Only 1 row-kinds.ps row-kinds.r row.Post
+row-only κs a x y s t p q = p ∙ sym q
+
+pub write-only : OnlyRoom 3 write-kinds.ps write-kinds.r (λ κs s. now (s .1 .1 .0)) write.Post
+write-only κs a x y s t p q = (p .0 ∙ sym (q .0), p .1 ∙ sym (q .1))

@@ -1,0 +1,36 @@
+// Little-endian numbers in a slice of bytes (specs/Words.antt).
+ghost use mathlib.Core.Path.{_≡_};
+ghost use Prim.Native.Nat.{_+_, _≤_, _<_};
+ghost use lib.ListN.{length, getD};
+ghost use Rattle.sheet.specs.Words.{u32At, u64At};
+
+// A byte as a u64.
+fn wide(x: u8) -> u64
+    ensures { λ r. ⌜ (r ≡ x) × (r < 256) ⌝ }
+{
+    x as u64
+}
+
+// The byte at place i.
+fn byte(s: &[u8], i: usize) -> u64
+    requires { ⌜ i < length (now s) ⌝ }
+    ensures { λ r. ⌜ (r ≡ getD (now (s .entry)) i 0) × (r < 256) ⌝ }
+{
+    wide(s[i])
+}
+
+// The u32 that starts at place i.
+pub(crate) fn u32_at(s: &[u8], i: usize) -> u64
+    requires { ⌜ i + 4 ≤ length (now s) ⌝ }
+    ensures { λ r. ⌜ (r ≡ u32At (now (s .entry)) i) × (r < 4294967296) ⌝ }
+{
+    byte(s, i) + 256 * byte(s, i + 1) + 65536 * byte(s, i + 2) + 16777216 * byte(s, i + 3)
+}
+
+// The u64 that starts at place i.
+pub(crate) fn u64_at(s: &[u8], i: usize) -> u64
+    requires { ⌜ i + 8 ≤ length (now s) ⌝ }
+    ensures { λ r. ⌜ r ≡ u64At (now (s .entry)) i ⌝ }
+{
+    u32_at(s, i) + 4294967296 * u32_at(s, i + 4)
+}

@@ -1,0 +1,7 @@
+-- `Pieces`: what a caller of several writers needs. `Digits`: a number's text, digit by digit. `ReadBack`: it reads back as the number.
+-- `Samples`: texts worked out by hand. `Only`: no second result.
+pub mod Pieces
+pub mod Digits
+pub mod ReadBack
+pub mod Samples
+pub mod Only
