@@ -1,13 +1,27 @@
 // For counting instructions (bench/count): works the operation that the first byte of standard input
 // names once for each byte behind it, with another argument each time, and says that it ended.
 
-// The value of one operation at x.
+use basic::Region1;
+use basic::Region2;
+use basic::State;
+
+// Every property of a state, so that none is left unworked.
+fn sum_of(a: State) -> f64 {
+    a.v + a.u + a.h + a.s + a.cp + a.w
+}
+
+// The value of one operation at x, which runs from 0.04 to 8.
 fn worked(operation: u8, x: f64) -> f64 {
     match operation {
         b'r' => arith::root(x),
         b'f' => arith::fourth_root(x),
         b'l' => arith::log(x),
         b'p' => arith::power(x, 17),
+        b'1' => sum_of(Region1::state(x, 300.0 + 10.0 * x)),
+        b'2' => sum_of(Region2::state(x, 700.0 + 10.0 * x)),
+        b'h' => Region1::h(x, 300.0 + 10.0 * x),
+        b'a' => basic::ps(300.0 + 20.0 * x),
+        b't' => basic::ts(x),
         _ => x,
     }
 }
@@ -19,7 +33,7 @@ fn run(operation: u8, n: usize) -> f64 {
     let mut k = 0usize;
     while k < n {
         sum = sum + worked(operation, x);
-        x = x * 1.31;
+        x = x * 1.05;
         k += 1;
     }
     sum

@@ -1,0 +1,4 @@
+pub mod Only
+pub mod Settled
+pub mod Walked
+pub mod Worked

@@ -1,0 +1,16 @@
+// One walker for every table of the papers: terms (n · A^I) · B^J summed in table order, with the
+// derivatives asked for (specs/Sum.antt). A table is lent as three slices, exponents as printed.
+mod walk;
+
+pub use walk::six_sums;
+pub use walk::sum;
+
+// A sum and its derivatives by A and B.
+pub struct Six {
+    pub f: f64,
+    pub fa: f64,
+    pub faa: f64,
+    pub fb: f64,
+    pub fbb: f64,
+    pub fab: f64,
+}
