@@ -1,2 +1,4 @@
 pub mod Exponents
+pub mod Carry
 pub mod Table
+pub mod SixTerms

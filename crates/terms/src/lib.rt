@@ -1,9 +1,12 @@
 // One walker for every table of the papers: terms (n · A^I) · B^J summed in table order, with the
 // derivatives asked for (specs/Sum.antt). A table is lent as three slices, exponents as printed.
-mod walk;
+mod derivatives;
+mod powers;
+mod rows;
+mod sums;
 
-pub use walk::six_sums;
-pub use walk::sum;
+pub use derivatives::six_sums;
+pub use sums::sum;
 
 // A sum and its derivatives by A and B.
 pub struct Six {
