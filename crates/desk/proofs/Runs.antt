@@ -1,0 +1,10 @@
+-- The theorems on runs, by theme; `Demand` states them, in the words of specs/Runs.antt.
+pub mod Round
+pub mod Posts
+pub mod Kept
+pub mod Fair
+pub mod Own
+pub mod Posted
+pub mod Same
+pub mod Received
+pub mod Demand

@@ -1,0 +1,211 @@
+-- The promises of one job, anywhere in a run: what a peek shows, what a collect hands out, and that 1,280 turns make it ready. Assumes nothing.
+use mathlib.Core.Path.{_≡_, refl, sym, ap, _∙_, subst}
+use mathlib.Core.Bool.{Bool, true, false, cond}
+use mathlib.Core.List.{List, [], _∷_, _++_}
+use Prim.Native.Nat.{ℕ, suc, _+_, _≤_, _<_}
+use native.Mathlib.Omega.{arith}
+use lib.ListN.{set}
+use lib.Seq.{getD-set-same}
+use lib.Dec.{ltb}
+use lib.Ieee.{Float}
+use borrow.Author.Tests.{ltb-true, ltb-false, le-ltb}
+use Rattle.settle.specs.declared.Judged.the-variants.{Within}
+use Rattle.settle.specs.declared.Settled.{Settled}
+use Rattle.settle.specs.Settle.{judgedOf}
+use Rattle.desk.specs.declared.Desk.{Desk}
+use Rattle.desk.specs.declared.Outcome.{Outcome}
+use Rattle.desk.specs.declared.Answer.the-variants.{Ticket, Shown, State}
+use Rattle.desk.specs.declared.Open.{Open}
+use Rattle.desk.specs.declared.Open.the-variants.{At, Closed}
+use Rattle.desk.specs.Model.{due, newDesk, row, counted, held, ofCaller, vacant, tally, lowest, answers, refuse, Query, queryOf, bracketOf, halve, settle, fresh, openOf, emptied, peekAt, collectAt, peekOf, collectOf}
+use Rattle.desk.proofs.Tests.{held-is}
+use Rattle.desk.proofs.Changes.{row-each}
+use Rattle.desk.proofs.Good.{Good, good-sound}
+use Rattle.desk.proofs.Tickets.{Seat, open-seat, seat-open}
+use Rattle.desk.specs.Runs.{Call, post, peek, collect, step, afterFrom, after, answerTo, isTurn, turns, enough, OpenFor, times, asked, HalvedTo, SettledTo}
+use Rattle.desk.proofs.Runs.Round.{ahead-lt}
+use Rattle.desk.proofs.Runs.Posts.{Job, Ruling, against, given, Granted, rulingAt, seats, post-ruled, ruling-given}
+use Rattle.desk.proofs.Runs.Kept.{good-step, good-new, was-given, seat-free, counts-wide}
+use Rattle.desk.proofs.Runs.Fair.{Fits, Tracked, aged, tracked-step}
+
+-- ---- runs
+
+pub good-from : (d : Desk) → Good d → (xs : List Call) → Good (afterFrom d xs)
+unfolding afterFrom
+good-from d g [] = g
+good-from d g (x ∷ xs) = good-from (step d x .desk) (good-step d x g) xs
+
+pub good-after : (xs : List Call) → Good (after xs)
+good-after xs = good-from newDesk good-new xs
+
+pub after-append : (d : Desk) (xs ys : List Call) → afterFrom d (xs ++ ys) ≡ afterFrom (afterFrom d xs) ys
+unfolding afterFrom
+after-append d [] ys = refl
+after-append d (x ∷ xs) ys = after-append (step d x .desk) xs ys
+
+aged-turns : (x : Call) (xs : List Call) (a : ℕ) → aged x a + turns xs ≡ a + turns (x ∷ xs)
+unfolding turns
+aged-turns x xs a = go (isTurn x)
+  where
+    go : (b : Bool) → cond b (suc a) a + turns xs ≡ a + cond b (suc (turns xs)) (turns xs)
+    go true = omega arith
+    go false = omega arith
+
+tracked-run : (c t : ℕ) (j : Job) (d : Desk) (xs : List Call) (a b : ℕ) → b ≡ a + turns xs → Good d → Tracked c t j a d → Tracked c t j b (afterFrom d xs)
+unfolding afterFrom turns
+tracked-run c t j d [] a b e g o = let q : a ≡ b = omega arith in subst (λ (n : ℕ). Tracked c t j n d) q o
+tracked-run c t j d (x ∷ xs) a b e g o = tracked-run c t j (step d x .desk) xs (aged x a) b (e ∙ sym (aged-turns x xs a)) (good-step d x g) (tracked-step c t j a d x g o)
+
+-- ---- a post that gets a ticket
+
+pub record Got (d : Desk) (c k : ℕ) (p y : Float) (t : ℕ) : Type 0 where
+  pub job : Job
+  pub granted : Granted c k p y (counted d c) (tally (ofCaller c) d) job
+  pub own : counted d c ≡ t
+  pub leaves : step d (post c k p y) .desk ≡ seats d c job
+
+pub got : (d : Desk) → Good d → (c k : ℕ) (p y : Float) (t : ℕ) → step d (post c k p y) .answer ≡ Ticket t → Got d c k p y t
+got d g c k p y t e = go (rulingAt d c k p y) refl
+  where
+    go : (r : Ruling) → rulingAt d c k p y ≡ r → Got d c k p y t
+    go (against n) q = absurd (let f = rw (post-ruled d c k p y (good-sound d g), q) at e in let z : _≡_ {A = ℕ} 0 1 = cc in omega arith)
+    go (given j) q =
+        let f = rw (post-ruled d c k p y (good-sound d g), q) at e in
+        record {
+          job = j;
+          granted = ruling-given c k p y (counted d c) (tally (ofCaller c) d) j q;
+          own = cc;
+          leaves = rw (post-ruled d c k p y (good-sound d g), q);
+        }
+
+pub tracked-fresh : (d : Desk) → Good d → (c k : ℕ) (p y : Float) (t : ℕ) (j : Job) → Granted c k p y (counted d c) (tally (ofCaller c) d) j → counted d c ≡ t → Tracked c t j 0 (seats d c j)
+unfolding times
+tracked-fresh d g c k p y t j w own = record {
+  mine = rw (getD-set-same (d .counts) c (counted d c + 1) 0 (counts-wide d g c k p y j w)) (omega arith);
+  fits = row-each d (lowest vacant d) (fresh c (counted d c) (j .query) (j .bracket)) (set (d .counts) c (counted d c + 1)) (d .pointer)
+      (λ i r. held c t r ≡ true → Fits j 0 (d .pointer) i r) (g .long) (seat-free d g c k p y j w)
+      (λ q. record { same = refl; halvedTo = refl; pace = λ s. omega (arith, ahead-lt (d .pointer) (lowest vacant d)) })
+      (λ i l ne q. absurd (omega (arith, was-given d g c t i l q)));
+}
+
+-- what is known of ticket t, posted for (k, p, y), at the end of a run
+pub record Followed (c t k : ℕ) (p y : Float) (age : ℕ) (d : Desk) : Type 0 where
+  pub good : Good d
+  pub job : Job
+  pub query : job .query ≡ asked k (job .query .region) p y
+  pub judgedTo : judgedOf k p y ≡ Within (job .query .region) (job .bracket .lo) (job .bracket .hi)
+  pub tracked : Tracked c t job age d
+
+pub followed : (c t k : ℕ) (p y : Float) (pre since : List Call) → answerTo pre (post c k p y) ≡ Ticket t → Followed c t k p y (turns since) (after (pre ++ post c k p y ∷ since))
+unfolding afterFrom
+followed c t k p y pre since e =
+    rw (after-append newDesk pre (post c k p y ∷ since)) (record {
+      good = good-from (step d (post c k p y) .desk) (good-step d (post c k p y) g) since;
+      job = o .job;
+      query = o .granted .query;
+      judgedTo = o .granted .judgedTo;
+      tracked = tracked-run c t (o .job) (step d (post c k p y) .desk) since 0 (turns since) (omega arith) (good-step d (post c k p y) g)
+          (rw (o .leaves) (tracked-fresh d g c k p y t (o .job) (o .granted) (o .own)));
+    })
+  where
+    d : Desk
+    d = after pre
+
+    g : Good d
+    g = good-after pre
+
+    o : Got d c k p y t
+    o = got d g c k p y t e
+
+-- ---- an answer that is no refusal comes from the ticket's row
+
+module _ (d : Desk) (c t : ℕ) where
+  pub record Peeked (n : ℕ) (lo hi : Float) : Type 0 where
+    pub at : ℕ
+    pub seat : Seat d c t at
+    pub halvings : row d at .halvings ≡ n
+    pub bracket : bracketOf (row d at) ≡ record { lo = lo; hi = hi }
+
+  pub peeked : (n : ℕ) (lo hi : Float) → step d (peek c t) .answer ≡ Shown n lo hi → Peeked n lo hi
+  unfolding peekOf peekAt
+  peeked n lo hi e = go (openOf d c t) refl e
+    where
+      go : (o : Open) → openOf d c t ≡ o → peekAt d o .answer ≡ Shown n lo hi → Peeked n lo hi
+      go (Closed m) q f = absurd (let z : _≡_ {A = ℕ} 0 1 = cc in omega arith)
+      go (At i) q f =
+          let a : row d i .lo ≡ lo = cc in
+          let b : row d i .hi ≡ hi = cc in
+          record { at = i; seat = open-seat d c t i q; halvings = cc; bracket = rw (a, b) }
+
+  pub record Collected (s : Settled) : Type 0 where
+    pub at : ℕ
+    pub seat : Seat d c t at
+    pub ready : due ≤ row d at .halvings
+    pub state : settle (queryOf (row d at)) (bracketOf (row d at)) ≡ s
+
+  pub collected : (s : Settled) → step d (collect c t) .answer ≡ State s → Collected s
+  unfolding collectOf collectAt
+  collected s e = go (openOf d c t) refl e
+    where
+      done : (i : ℕ) → Seat d c t i → (b : Bool) → ltb (row d i .halvings) due ≡ b
+          → (cond b (refuse 12 d) (answers (State (settle (queryOf (row d i)) (bracketOf (row d i)))) (emptied d i))) .answer ≡ State s → Collected s
+      done i k true q f = absurd (let z : _≡_ {A = ℕ} 0 1 = cc in omega arith)
+      done i k false q f = record { at = i; seat = k; ready = ltb-false (row d i .halvings) due q; state = cc }
+
+      go : (o : Open) → openOf d c t ≡ o → collectAt d o .answer ≡ State s → Collected s
+      go (Closed m) q f = absurd (let z : _≡_ {A = ℕ} 0 1 = cc in omega arith)
+      go (At i) q f = done i (open-seat d c t i q) (ltb (row d i .halvings) due) refl f
+
+-- ---- the promises of one job
+
+module _ (c t k : ℕ) (p y : Float) (age : ℕ) (d : Desk) (w : Followed c t k p y age d) where
+  shown : (i : ℕ) → Seat d c t i → HalvedTo k p y (row d i .halvings) (bracketOf (row d i))
+  shown i s = record {
+    region = w .job .query .region;
+    first = w .job .bracket;
+    judgedTo = w .judgedTo;
+    halvings = w .tracked .fits i (s .place) (s .has) .halvedTo ∙ ap (λ (q : Query). times (halve q) (row d i .halvings) (w .job .bracket)) (w .query);
+  }
+
+  full : (i : ℕ) → Seat d c t i → due ≤ row d i .halvings → row d i .halvings ≡ due
+  full i s n = omega (arith, w .good .rows .each i (s .place) (held-is c (row d i) t (s .has) .0) .within)
+
+  settled : (i : ℕ) → Seat d c t i → due ≤ row d i .halvings → SettledTo k p y (settle (queryOf (row d i)) (bracketOf (row d i)))
+  unfolding shown
+  settled i s n = record {
+    bracket = bracketOf (row d i);
+    halved = subst (λ (m : ℕ). HalvedTo k p y m (bracketOf (row d i))) (full i s n) (shown i s);
+    settles = ap (λ (q : Query). settle q (bracketOf (row d i))) (w .tracked .fits i (s .place) (s .has) .same ∙ w .query);
+  }
+
+  -- 1,280 turns make 40 halvings
+  pub ready : (i : ℕ) → Seat d c t i → enough ≤ age → due ≤ row d i .halvings
+  ready i s n = go (ltb (row d i .halvings) due) refl
+    where
+      go : (b : Bool) → ltb (row d i .halvings) due ≡ b → due ≤ row d i .halvings
+      go false e = ltb-false (row d i .halvings) due e
+      go true e = let m = ltb-true (row d i .halvings) due e in absurd (omega (arith, w .tracked .fits i (s .place) (s .has) .pace m))
+
+  pub peek-at : (n : ℕ) (lo hi : Float) → step d (peek c t) .answer ≡ Shown n lo hi → HalvedTo k p y n (record { lo = lo; hi = hi })
+  peek-at n lo hi e = let f = peeked d c t n lo hi e in rw (f .halvings, f .bracket) at (shown (f .at) (f .seat))
+
+  pub collect-at : (s : Settled) → step d (collect c t) .answer ≡ State s → SettledTo k p y s
+  collect-at s e = let f = collected d c t s e in rw (f .state) at (settled (f .at) (f .seat) (f .ready))
+
+  pub ready-at : c < 8 → OpenFor c t d → enough ≤ age
+      → Seat d c t (lowest (held c t) d)
+      × (step d (collect c t) ≡ answers (State (settle (queryOf (row d (lowest (held c t) d))) (bracketOf (row d (lowest (held c t) d))))) (emptied d (lowest (held c t) d)))
+  unfolding collectOf collectAt
+  ready-at l o n =
+      let e = seat-open d c t (good-sound d (w .good)) l (o .0) (record { place = o .1; has = o .2 }) in
+      let s = open-seat d c t (lowest (held c t) d) e in
+      let r = ready (lowest (held c t) d) s n in
+      (s, rw (e, le-ltb (row d (lowest (held c t) d) .halvings) due r))
+
+-- 1,280 turns after its post an open ticket's collect gives a state
+pub collect-ready : (c t k : ℕ) (p y : Float) (pre since : List Call) → c < 8 → answerTo pre (post c k p y) ≡ Ticket t
+    → OpenFor c t (after (pre ++ post c k p y ∷ since)) → enough ≤ turns since → (s : Settled) × (answerTo (pre ++ post c k p y ∷ since) (collect c t) ≡ State s)
+collect-ready c t k p y pre since l e o n =
+    let d = after (pre ++ post c k p y ∷ since) in
+    let r = ready-at c t k p y (turns since) d (followed c t k p y pre since e) l o n in
+    (settle (queryOf (row d (lowest (held c t) d))) (bracketOf (row d (lowest (held c t) d))), ap (λ (v : Outcome). v .answer) (r .1))

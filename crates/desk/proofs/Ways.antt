@@ -1,0 +1,53 @@
+-- The ways through a turn and a collect that read a row, against the definitions. Assumes nothing.
+use mathlib.Core.Path.{_≡_}
+use mathlib.Core.Bool.{true}
+use mathlib.Core.List.{List}
+use Prim.Native.Nat.{ℕ, _+_, _%_, _≤_, _<_}
+use native.Mathlib.Omega.{arith}
+use borrow.Author.Tests.{lt-ltb, le-ltb}
+use lib.ListN.{getD}
+use mir.Val.{Val}
+use denote.Laws.{Is}
+use denote.Struct.Declared.{row as owned}
+use Rattle.desk.proofs.Desk as DeskT
+use Rattle.desk.specs.declared.Row.{Row}
+use Rattle.desk.specs.declared.Desk.{Desk}
+use Rattle.desk.specs.declared.Answer.the-variants as Answer
+use Rattle.desk.specs.declared.Open.the-variants.{At}
+use Rattle.desk.specs.Model.{due, row, unfinished, sound, answers, refuse, put, queryOf, bracketOf, settle, halvedRow, next, past, turnOf, openOf, emptied, collectOf, collectAt, peekOf, peekAt}
+use Rattle.desk.proofs.Tests.{unfinished-is}
+use Rattle.desk.proofs.Changes.{onward-true}
+use Rattle.desk.proofs.Lists.{row-is}
+use Rattle.desk.proofs.Tickets.{open-seat}
+
+-- r stands past the end of the rows
+module _ (d : Desk) (vs : List Val) (own : Is (owned DeskT.the-type) d vs) (i : ℕ) (r : Row) where
+  abbrev here : Row
+  here = getD (d .rows) i r
+
+  pub turn-halves : (s : Row) → sound d ≡ true → next d < 32 → (d .pointer + next d) % 32 ≡ i → s ≡ halvedRow here
+      → answers Answer.Halved (put d i s (d .counts) (past i)) ≡ turnOf d
+  unfolding turnOf
+  turn-halves s e l q h = rw (e, lt-ltb (next d) 32 l, q, row-is d vs own i r (omega arith), h)
+
+  -- the row that a turn takes has halvings to go
+  pub turn-goes-on : next d < 32 → (d .pointer + next d) % 32 ≡ i → here .halvings < due
+  turn-goes-on l q =
+      let u = unfinished-is (row d i) (rw q at (onward-true unfinished d (d .pointer) l)) .1 in
+      rw (row-is d vs own i r (omega arith)) at u
+
+  module _ (c t : ℕ) (o : openOf d c t ≡ At i) where
+    same : row d i ≡ here
+    same = row-is d vs own i r (open-seat d c t i o .place)
+
+    pub peek-shows : answers (Answer.Shown (here .halvings) (here .lo) (here .hi)) d ≡ peekOf d c t
+    unfolding peekOf peekAt
+    peek-shows = rw (o, same)
+
+    pub collect-early : here .halvings < due → refuse 12 d ≡ collectOf d c t
+    unfolding collectOf collectAt
+    collect-early h = rw (o, same, lt-ltb (here .halvings) due h)
+
+    pub collect-hands : due ≤ here .halvings → answers (Answer.State (settle (queryOf here) (bracketOf here))) (emptied d i) ≡ collectOf d c t
+    unfolding collectOf collectAt
+    collect-hands h = rw (o, same, le-ltb (here .halvings) due h)

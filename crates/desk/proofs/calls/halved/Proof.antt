@@ -1,0 +1,18 @@
+-- `desk::calls::halved` meets its contract: the settling layer's halving of the row's own bracket, and one more counted. Assumes nothing.
+use borrow.Author.Needs.{needs}
+use Rattle.desk.specs.Model.{halvedRow}
+use Rattle.desk.proofs.calls.halved.Statement.{statement}
+use Rattle.desk.proofs.calls.halved.Tie as tie
+
+halve-requires : tie.Need-halve-requires
+halve-requires c κs = search needs
+
+add-s : tie.Need-add-s
+add-s c = search needs
+
+returns : tie.Need-returns
+unfolding halvedRow
+returns c = rw (c .before .halve .ensures)
+
+pub halved-spec : {M : Type 1} → statement M
+halved-spec = tie.close (tie.spec halve-requires add-s returns)

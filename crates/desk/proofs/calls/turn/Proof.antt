@@ -1,0 +1,80 @@
+-- `desk::calls::turn` meets its contract: 15, idle, or one halving of the first unfinished row at or after the pointer. Assumes nothing.
+use native.Mathlib.Omega.{arith}
+use borrow.Author.Needs.{needs}
+use mathlib.Core.Path.{sym, _∙_}
+use Prim.Native.Nat.{_<_}
+use borrow.Author.Tests.{not-true, not-false, le-ltb}
+use Rattle.desk.specs.Model.{turnOf}
+use Rattle.desk.proofs.Good.{sound-good}
+use Rattle.desk.proofs.Lists.{rows-long, counts-long}
+use Rattle.desk.proofs.Ways.{turn-goes-on, turn-halves}
+use Rattle.desk.proofs.calls.turn.Statement.{statement}
+use Rattle.desk.proofs.calls.turn.Tie as tie
+
+points : (c : tie.Else1) → c .before .before .args .t1 .pointer < 32
+points c =
+    let s = c .before .before in
+    sound-good (s .args .t1) (rows-long (s .args .t1) _ (s .good .0)) (counts-long (s .args .t1) _ (s .good .0)) (sym (c .before .is-sound .ensures) ∙ not-false _ (c .if1 .left)) .points
+
+is-sound-requires : tie.Need-is-sound-requires
+is-sound-requires c κs = search needs
+
+refused-requires : tie.Need-refused-requires
+refused-requires c κs = search needs
+
+returns : tie.Need-returns
+unfolding turnOf
+returns c = rw (sym (c .before .before .is-sound .ensures) ∙ not-true _ (c .before .if1 .taken)) (c .refused .ensures)
+
+places-on-requires : tie.Need-places-on-requires
+places-on-requires c κs = search needs
+
+returns-2 : tie.Need-returns-2
+unfolding turnOf
+returns-2 c = rw (sym (c .before .before .before .is-sound .ensures) ∙ not-false _ (c .before .before .if1 .left), ← c .before .places-on .ensures, le-ltb _ _ (c .if2 .taken))
+
+add-i : tie.Need-add-i
+add-i c = let h = points (c .before .before) in omega arith
+
+mul-r : tie.Need-mul-r
+mul-r c = search needs
+
+element-copy-out-r : tie.Need-element-copy-out-r
+element-copy-out-r c = search needs
+
+halved-requires : tie.Need-halved-requires
+halved-requires c κs =
+    let s = c .before .before .before .before .before in
+    turn-goes-on (s .args .t1) _ (s .good .0) _ _ (rw (c .before .before .places-on .ensures) at (c .before .if2 .left)) (rw (c .before .before .places-on .ensures))
+
+mul-s : tie.Need-mul-s
+mul-s c = search needs
+
+element-set-from-s : tie.Need-element-set-from-s
+element-set-from-s c = search needs
+
+add-d : tie.Need-add-d
+add-d c = search needs
+
+returns-3 : tie.Need-returns-3
+returns-3 c =
+    let s = c .before .before .before .before .before .before in
+    turn-halves (s .args .t1) _ (s .good .0) _ _ _ (sym (c .before .before .before .before .before .is-sound .ensures) ∙ not-false _ (c .before .before .before .before .if1 .left)) (rw (c .before .before .before .places-on .ensures) at (c .before .before .if2 .left)) (rw (c .before .before .before .places-on .ensures)) (c .halved .ensures)
+
+pub turn-spec : {M : Type 1} → statement M
+turn-spec =
+    tie.close
+    (tie.spec
+    is-sound-requires
+    refused-requires
+    returns
+    places-on-requires
+    returns-2
+    add-i
+    mul-r
+    element-copy-out-r
+    halved-requires
+    mul-s
+    element-set-from-s
+    add-d
+    returns-3)

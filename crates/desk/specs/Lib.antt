@@ -1,0 +1,4 @@
+pub mod Search
+pub mod Model
+pub mod Noted
+pub mod Runs

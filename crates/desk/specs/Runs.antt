@@ -1,0 +1,161 @@
+-- What is said of runs of the desk. Definitions only; `step` is made of the definitions that the contracts of the desk's calls cite, and of nothing else.
+-- A model is one caller number, which no other model uses. The theorems are in proofs/Runs/Demand.antt.
+use mathlib.Core.Path.{_≡_}
+use mathlib.Core.Bool.{Bool, true, false, cond, _&&_}
+use mathlib.Core.List.{List, [], _∷_, _++_}
+use Prim.Native.Nat.{ℕ, zero, suc, _+_, _%_, _≤_, _<_}
+use lib.Dec.{eqb, ltb}
+use lib.Ieee.{Float}
+use Rattle.settle.specs.declared.Bracket.{Bracket}
+use Rattle.settle.specs.declared.Judged.the-variants.{Within}
+use Rattle.settle.specs.declared.Settled.{Settled}
+use Rattle.settle.specs.Settle.{judgedOf}
+use Rattle.desk.specs.declared.Desk.{Desk}
+use Rattle.desk.specs.declared.Answer.{Answer}
+use Rattle.desk.specs.declared.Answer.the-variants.{Ticket, State}
+use Rattle.desk.specs.declared.Outcome.{Outcome}
+use Rattle.desk.specs.Search.{bit}
+use Rattle.desk.specs.Model.{due, newDesk, row, held, next, Query, halve, settle, postOf, turnOf, peekOf, collectOf, withdrawOf}
+
+-- ---- calls and runs
+
+-- a call of the desk: who posts, peeks, collects or withdraws, and what; a turn is no one's
+pub data Call : Type 0 where
+  post : (caller kind : ℕ) (p y : Float) → Call
+  turn : Call
+  peek collect withdraw : (caller ticket : ℕ) → Call
+
+-- what it answers, and the desk that it leaves
+abbrev pub step : Desk → Call → Outcome
+step d (post c kind p y) = postOf d c kind p y
+step d turn = turnOf d
+step d (peek c t) = peekOf d c t
+step d (collect c t) = collectOf d c t
+step d (withdraw c t) = withdrawOf d c t
+
+-- A run is a list of calls, each given the desk as the call before left it. The desk after a run that starts at d, and after one from a new desk:
+unfoldable pub afterFrom : Desk → List Call → Desk
+afterFrom d [] = d
+afterFrom d (x ∷ xs) = afterFrom (step d x .desk) xs
+
+abbrev pub after : List Call → Desk
+after xs = afterFrom newDesk xs
+
+-- what a call answers at the end of a run from a new desk
+abbrev pub answerTo : List Call → Call → Answer
+answerTo xs x = step (after xs) x .answer
+
+-- a call of a run, with the answer that it got; a run's calls with their answers
+pub record Entry : Type 0 where
+  pub call : Call
+  pub answer : Answer
+
+unfoldable pub historyFrom : Desk → List Call → List Entry
+historyFrom d [] = []
+historyFrom d (x ∷ xs) = record { call = x; answer = step d x .answer } ∷ historyFrom (step d x .desk) xs
+
+abbrev pub history : List Call → List Entry
+history xs = historyFrom newDesk xs
+
+-- ---- a model's own calls
+
+-- the members of a list that pass a test, in their order
+unfoldable pub keep : {A : Type 0} → (A → Bool) → List A → List A
+keep f [] = []
+keep f (x ∷ xs) = cond (f x) (x ∷ keep f xs) (keep f xs)
+
+-- a post, collect or withdraw of caller c
+abbrev pub asks : ℕ → Call → Bool
+asks c (post e kind p y) = eqb e c
+asks c turn = false
+asks c (peek e t) = false
+asks c (collect e t) = eqb e c
+asks c (withdraw e t) = eqb e c
+
+-- in a run, what caller c posted, collected and withdrew; in a history, the same with the answers
+abbrev pub ownCalls : ℕ → List Call → List Call
+ownCalls c xs = keep (asks c) xs
+
+abbrev pub ownPart : ℕ → List Entry → List Entry
+ownPart c h = keep (λ e. asks c (e .call)) h
+
+-- ---- patience
+
+-- turns enough for any job: 40 for each of 32 rows
+abbrev pub enough : ℕ
+enough = 1280
+
+abbrev pub isTurn : Call → Bool
+isTurn (post c kind p y) = false
+isTurn turn = true
+isTurn (peek c t) = false
+isTurn (collect c t) = false
+isTurn (withdraw c t) = false
+
+-- how many turns a run has
+unfoldable pub turns : List Call → ℕ
+turns [] = zero
+turns (x ∷ xs) = cond (isTurn x) (suc (turns xs)) (turns xs)
+
+-- ticket t is open for caller c: a filled row has both
+abbrev pub OpenFor : ℕ → ℕ → Desk → Type 0
+OpenFor c t d = (i : ℕ) × (i < 32) × (held c t (row d i) ≡ true)
+
+-- the run xs is `pre`, then caller c's post of (kind, p, y), which got ticket t, then `since`
+abbrev pub Posted : ℕ → ℕ → ℕ → Float → Float → List Call → List Call → List Call → Type 0
+Posted c t kind p y pre since xs = (xs ≡ pre ++ post c kind p y ∷ since) × (answerTo pre (post c kind p y) ≡ Ticket t)
+
+-- each collect of caller c that names a ticket then open for it comes at least 1,280 turns after that ticket's post
+abbrev pub Patient : ℕ → List Call → Type 0
+Patient c xs =
+    (before rest : List Call) (t : ℕ) → xs ≡ before ++ collect c t ∷ rest → OpenFor c t (after before)
+    → (pre since : List Call) (kind : ℕ) (p y : Float) → Posted c t kind p y pre since before → enough ≤ turns since
+
+-- and each such collect gives a state
+abbrev pub CollectsGive : ℕ → List Call → Type 0
+CollectsGive c xs =
+    (before rest : List Call) (t : ℕ) → xs ≡ before ++ collect c t ∷ rest → OpenFor c t (after before)
+    → (s : Settled) × (answerTo before (collect c t) ≡ State s)
+
+-- ---- what a job is worth
+
+-- f done n times over
+unfoldable pub times : {A : Type 0} → (A → A) → ℕ → A → A
+times f zero x = x
+times f (suc n) x = f (times f n x)
+
+abbrev pub asked : ℕ → ℕ → Float → Float → Query
+asked kind region p y = record { kind = kind; region = region; p = p; y = y }
+
+-- b is the bracket that n halvings give of the query's own, which judging it gave
+pub record HalvedTo (kind : ℕ) (p y : Float) (n : ℕ) (b : Bracket) : Type 0 where
+  pub region : ℕ
+  pub first : Bracket
+  pub judgedTo : judgedOf kind p y ≡ Within region (first .lo) (first .hi)
+  pub halvings : b ≡ times (halve (asked kind region p y)) n first
+
+-- s is the state of 40 halvings of the query's own bracket
+pub record SettledTo (kind : ℕ) (p y : Float) (s : Settled) : Type 0 where
+  pub bracket : Bracket
+  pub halved : HalvedTo kind p y due bracket
+  pub settles : s ≡ settle (asked kind (halved .region) p y) bracket
+
+-- the post that gave caller c ticket t in a run
+pub record Origin (c t : ℕ) (run : List Call) : Type 0 where
+  pub pre : List Call
+  pub since : List Call
+  pub kind : ℕ
+  pub p : Float
+  pub y : Float
+  pub posted : Posted c t kind p y pre since run
+
+-- ---- which turns a row received
+
+-- the call x on the desk d is a turn that goes to the row of caller c's ticket t
+abbrev pub goesTo : ℕ → ℕ → Desk → Call → Bool
+goesTo c t d x = isTurn x && (ltb (next d) 32 && held c t (row d ((d .pointer + next d) % 32)))
+
+-- how many calls of a run that starts at d do
+unfoldable pub received : ℕ → ℕ → Desk → List Call → ℕ
+received c t d [] = 0
+received c t d (x ∷ xs) = bit (goesTo c t d x) + received c t (step d x .desk) xs

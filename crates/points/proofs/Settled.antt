@@ -1,0 +1,15 @@
+-- Each marked point reads what it must, by working the definitions out. Assumes nothing.
+use mathlib.Core.Path.{_≡_, refl}
+use mathlib.Core.List.{map}
+use lib.Ieee.{round, ofInt, lt, le, add, mul}
+use Rattle.arith.specs.Printed.{printed}
+use Rattle.arith.specs.Bits.{finite}
+use Rattle.backward.specs.H2ab.{h2ab}
+use Rattle.backward.specs.Subregions.{byHs}
+use Rattle.sums.specs.Places.{placePT, tableOf}
+use Rattle.sums.specs.Queries.{answerPT}
+use Rattle.points.specs.Marked.{MarkedPoint, marked, readingOf}
+
+pub settled : map (λ (x : MarkedPoint). readingOf (x .asked)) marked ≡ map (λ (x : MarkedPoint). x .reading) marked
+unfolding marked readingOf answerPT placePT tableOf byHs h2ab finite printed round ofInt lt le add mul
+settled = refl

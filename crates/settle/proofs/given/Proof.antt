@@ -1,0 +1,13 @@
+-- `settle::given` meets its contract. Assumes nothing.
+use borrow.Author.Tests.{eq-eqb, ne-eqb}
+use Rattle.settle.proofs.given.Statement.{statement}
+use Rattle.settle.proofs.given.Tie as tie
+
+returns : tie.Need-returns
+returns c = rw (eq-eqb (c .before .args .kind) 2 (c .if1 .taken))
+
+returns-2 : tie.Need-returns-2
+returns-2 c = rw (ne-eqb (c .before .args .kind) 2 (c .if1 .left))
+
+pub given-spec : {M : Type 1} → statement M
+given-spec = tie.close (tie.spec returns returns-2)

@@ -1,0 +1,111 @@
+// The settling layer: what the desk may know of steam. A query of (p,h) or (p,s) is judged at its
+// post, its temperature bracket is halved one step a turn, and at the end its state is worked at the
+// middle of the bracket. What each call answers is said in specs/Settle.antt.
+use sums::Answer;
+use sums::Given;
+use sums::Single;
+ghost use mathlib.Core.Path.{_≡_};
+ghost use Rattle.settle.specs.Settle.{postedOf, givenOf, middleOf, bracketOf, judgedOf, halvedOf, settledOf};
+
+// A temperature bracket in K.
+pub struct Bracket {
+    pub lo: f64,
+    pub hi: f64,
+}
+
+// What judging a post finds: the refusal's number, or the region and the bracket to halve.
+pub enum Judged {
+    Refused(u64),
+    Within { region: u64, lo: f64, hi: f64 },
+}
+
+// What a collect hands out: the state of one phase that the halvings settled, with its mark.
+pub struct Settled {
+    pub single: Single,
+}
+
+// Whether a kind may be posted: 2, (p,h), or 3, (p,s).
+fn posted(kind: u64) -> bool
+    ensures { λ r. ⌜ r ≡ postedOf kind ⌝ }
+{
+    kind == 2 || kind == 3
+}
+
+// What a kind gives beside p: 2 gives h, any other s.
+fn given(kind: u64) -> Given
+    ensures { λ r. ⌜ r ≡ givenOf kind ⌝ }
+{
+    if kind == 2 {
+        Given::Enthalpy
+    } else {
+        Given::Entropy
+    }
+}
+
+// The middle of a bracket.
+fn middle(lo: f64, hi: f64) -> f64
+    ensures { λ r. ⌜ r ≡ middleOf lo hi ⌝ }
+{
+    (lo + hi) / 2.0
+}
+
+// The bracket of region 1 or 2 at p: from 273.15 K, or up to 1073.15 K.
+fn first_bracket(region: u64, p: f64) -> Bracket
+    ensures { λ r. ⌜ r ≡ bracketOf region p ⌝ }
+{
+    if region == 1 {
+        Bracket {
+            lo: 273.15,
+            hi: sums::liquid_end(p),
+        }
+    } else {
+        Bracket {
+            lo: sums::vapour_start(p),
+            hi: 1073.15,
+        }
+    }
+}
+
+// A post of kind 2, (p,h), or 3, (p,s), judged. Another kind is refused by 9, a wet query by 8.
+pub fn judge(kind: u64, p: f64, y: f64) -> Judged
+    ensures { λ r. ⌜ r ≡ judgedOf kind p y ⌝ }
+{
+    if !posted(kind) {
+        return Judged::Refused(9);
+    }
+    let answer = sums::query(kind, p, y);
+    match answer {
+        Answer::Single(a) => {
+            let region = a.region;
+            let b = first_bracket(region, p);
+            Judged::Within {
+                region,
+                lo: b.lo,
+                hi: b.hi,
+            }
+        }
+        Answer::Wet(_) => Judged::Refused(8),
+        Answer::Refused(n) => Judged::Refused(n),
+    }
+}
+
+// One halving: the middle becomes the lower end where the property there is below the one asked, and
+// the upper end otherwise. Only that one property is worked.
+pub fn halve(kind: u64, region: u64, p: f64, y: f64, lo: f64, hi: f64) -> Bracket
+    ensures { λ r. ⌜ r ≡ halvedOf kind region p y lo hi ⌝ }
+{
+    let mid = middle(lo, hi);
+    if sums::property(given(kind), region, p, mid) < y {
+        Bracket { lo: mid, hi }
+    } else {
+        Bracket { lo, hi: mid }
+    }
+}
+
+// The state at the middle of the bracket, with its mark.
+pub fn settled_at(kind: u64, region: u64, p: f64, y: f64, lo: f64, hi: f64) -> Settled
+    ensures { λ r. ⌜ r ≡ settledOf kind region p y lo hi ⌝ }
+{
+    let single = sums::marked(given(kind), region, p, y, middle(lo, hi));
+    Settled { single }
+}

@@ -1,0 +1,53 @@
+-- What holds of answers holds of the outcomes that the code carries in their place: nothing of an answer is lost, the first that is not refused is the same,
+-- and so is the quotient at a state. Assumes nothing.
+use mathlib.Core.Path.{_≡_, refl}
+use mathlib.Core.List.{[], _∷_}
+use mathlib.Core.Logic.{⊎-elim}
+use Prim.Native.Nat.{ℕ}
+use denote.Enum.Declared.{tagOf}
+use types.Run.{OneOf}
+use Rattle.sums.proofs.outcomes.Outcome.{the-type}
+use Rattle.sums.specs.Queries.{firstOf}
+use Rattle.sums.specs.Quotients.{ratioAt, quotientAt}
+use Rattle.sums.specs.Outcomes.{outcomeOf, shownOf}
+use Rattle.sums.specs.declared.Answer.{Answer}
+use Rattle.sums.specs.declared.Answer.the-variants as Answer
+use Rattle.sums.specs.declared.Derivative.{Derivative}
+use Rattle.sums.specs.declared.Derivative.the-variants as Derivative
+use Rattle.sums.specs.declared.outcomes.Outcome.{Outcome}
+use Rattle.sums.specs.declared.outcomes.Outcome.the-variants.{Single, Wet, Refused}
+
+pub shown-same : (a : Answer) → shownOf (outcomeOf a) ≡ a
+shown-same (Answer.Single a) = refl
+shown-same (Answer.Wet a) = refl
+shown-same (Answer.Refused n) = refl
+
+-- ---- the first of two
+
+abbrev pub firstCarried : Outcome → Outcome → Outcome
+firstCarried (Single a) other = Single a
+firstCarried (Wet a) other = Wet a
+firstCarried (Refused n) other = other
+
+pub first-same : (a b : Answer) → outcomeOf (firstOf a b) ≡ firstCarried (outcomeOf a) (outcomeOf b)
+first-same (Answer.Single a) b = refl
+first-same (Answer.Wet a) b = refl
+first-same (Answer.Refused n) b = refl
+
+-- variants 0 and 1 are the states
+pub first-kept : (o other : Outcome) → OneOf (0 ∷ 1 ∷ []) (tagOf the-type o) → o ≡ firstCarried o other
+first-kept (Single a) other k = refl
+first-kept (Wet a) other k = refl
+first-kept (Refused n) other k = ⊎-elim (λ z. cc) (λ z. cc) k
+
+-- ---- the quotient
+
+abbrev pub quotientCarried : Outcome → ℕ → ℕ → ℕ → Derivative
+quotientCarried (Single a) z x y = ratioAt (a .single) (a .response) z x y
+quotientCarried (Wet a) z x y = Derivative.Refused 8
+quotientCarried (Refused n) z x y = Derivative.Refused n
+
+pub quotient-same : (a : Answer) (z x y : ℕ) → quotientAt a z x y ≡ quotientCarried (outcomeOf a) z x y
+quotient-same (Answer.Single a) z x y = refl
+quotient-same (Answer.Wet a) z x y = refl
+quotient-same (Answer.Refused n) z x y = refl

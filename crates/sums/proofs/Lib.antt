@@ -1,0 +1,4 @@
+pub mod Only
+pub mod Ends
+pub mod Carried
+pub mod Numbers

@@ -1,0 +1,74 @@
+-- No public call of this crate can give a second result: any two results that meet its promise are the same. Assumes nothing.
+-- `Post` is the promise itself, read off the source, so a promise that said less would fail here.
+use mathlib.Core.Path.{sym, _∙_}
+use Rattle.arith.proofs.Only.{Only}
+use Rattle.sums.proofs.answers.mark.Kinds as mark-kinds
+use Rattle.sums.proofs.answers.mark.Reads as mark
+use Rattle.sums.proofs.answers.number.Kinds as number-kinds
+use Rattle.sums.proofs.answers.number.Reads as number
+use Rattle.sums.proofs.answers.region.Kinds as region-kinds
+use Rattle.sums.proofs.answers.region.Reads as region
+use Rattle.sums.proofs.answers.values.Kinds as values-kinds
+use Rattle.sums.proofs.answers.values.Reads as values
+use Rattle.sums.proofs.marks.marked.Kinds as marked-kinds
+use Rattle.sums.proofs.marks.marked.Reads as marked
+use Rattle.sums.proofs.places.liquid_end.Kinds as liquid-end-kinds
+use Rattle.sums.proofs.places.liquid_end.Reads as liquid-end
+use Rattle.sums.proofs.places.vapour_start.Kinds as vapour-start-kinds
+use Rattle.sums.proofs.places.vapour_start.Reads as vapour-start
+use Rattle.sums.proofs.queries.from_hs.Kinds as from-hs-kinds
+use Rattle.sums.proofs.queries.from_hs.Reads as from-hs
+use Rattle.sums.proofs.queries.from_ph.Kinds as from-ph-kinds
+use Rattle.sums.proofs.queries.from_ph.Reads as from-ph
+use Rattle.sums.proofs.queries.from_ps.Kinds as from-ps-kinds
+use Rattle.sums.proofs.queries.from_ps.Reads as from-ps
+use Rattle.sums.proofs.queries.from_pt.Kinds as from-pt-kinds
+use Rattle.sums.proofs.queries.from_pt.Reads as from-pt
+use Rattle.sums.proofs.queries.query.Kinds as query-kinds
+use Rattle.sums.proofs.queries.query.Reads as query
+use Rattle.sums.proofs.quotients.quotient.Kinds as quotient-kinds
+use Rattle.sums.proofs.quotients.quotient.Reads as quotient
+use Rattle.sums.proofs.states.property.Kinds as property-kinds
+use Rattle.sums.proofs.states.property.Reads as property
+
+pub from-pt-only : Only 0 from-pt-kinds.ps from-pt-kinds.r from-pt.Post
+from-pt-only κs a x y s t p q = p ∙ sym q
+
+pub from-ph-only : Only 0 from-ph-kinds.ps from-ph-kinds.r from-ph.Post
+from-ph-only κs a x y s t p q = p ∙ sym q
+
+pub from-ps-only : Only 0 from-ps-kinds.ps from-ps-kinds.r from-ps.Post
+from-ps-only κs a x y s t p q = p ∙ sym q
+
+pub from-hs-only : Only 0 from-hs-kinds.ps from-hs-kinds.r from-hs.Post
+from-hs-only κs a x y s t p q = p ∙ sym q
+
+pub query-only : Only 0 query-kinds.ps query-kinds.r query.Post
+query-only κs a x y s t p q = p ∙ sym q
+
+pub quotient-only : Only 0 quotient-kinds.ps quotient-kinds.r quotient.Post
+quotient-only κs a x y s t p q = p ∙ sym q
+
+pub number-only : Only 0 number-kinds.ps number-kinds.r number.Post
+number-only κs a x y s t p q = p ∙ sym q
+
+pub region-only : Only 0 region-kinds.ps region-kinds.r region.Post
+region-only κs a x y s t p q = p ∙ sym q
+
+pub mark-only : Only 0 mark-kinds.ps mark-kinds.r mark.Post
+mark-only κs a x y s t p q = p ∙ sym q
+
+pub values-only : Only 0 values-kinds.ps values-kinds.r values.Post
+values-only κs a x y s t p q = p ∙ sym q
+
+pub property-only : Only 0 property-kinds.ps property-kinds.r property.Post
+property-only κs a x y s t p q = p ∙ sym q
+
+pub marked-only : Only 0 marked-kinds.ps marked-kinds.r marked.Post
+marked-only κs a x y s t p q = p ∙ sym q
+
+pub liquid-end-only : Only 0 liquid-end-kinds.ps liquid-end-kinds.r liquid-end.Post
+liquid-end-only κs a x y s t p q = p ∙ sym q
+
+pub vapour-start-only : Only 0 vapour-start-kinds.ps vapour-start-kinds.r vapour-start.Post
+vapour-start-only κs a x y s t p q = p ∙ sym q

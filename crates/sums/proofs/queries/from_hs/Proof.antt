@@ -1,0 +1,19 @@
+-- `sums::queries::from_hs` meets its contract: an answer taken into an outcome and out again is the same. Assumes nothing.
+use borrow.Author.Needs.{needs}
+use mathlib.Core.Path.{ap, _∙_}
+use Rattle.sums.specs.Outcomes.{shownOf}
+use Rattle.sums.proofs.Carried.{shown-same}
+use Rattle.sums.proofs.queries.from_hs.Statement.{statement}
+use Rattle.sums.proofs.queries.from_hs.Tie as tie
+
+of-hs-requires : tie.Need-of-hs-requires
+of-hs-requires c κs = search needs
+
+shown-requires : tie.Need-shown-requires
+shown-requires c κs = search needs
+
+returns : tie.Need-returns
+returns c = c .shown .ensures ∙ ap shownOf (c .before .of-hs .ensures) ∙ shown-same _
+
+pub from-hs-spec : {M : Type 1} → statement M
+from-hs-spec = tie.close (tie.spec of-hs-requires shown-requires returns)

@@ -1,0 +1,19 @@
+-- `sums::queries::from_ps` meets its contract: an answer taken into an outcome and out again is the same. Assumes nothing.
+use borrow.Author.Needs.{needs}
+use mathlib.Core.Path.{ap, _∙_}
+use Rattle.sums.specs.Outcomes.{shownOf}
+use Rattle.sums.proofs.Carried.{shown-same}
+use Rattle.sums.proofs.queries.from_ps.Statement.{statement}
+use Rattle.sums.proofs.queries.from_ps.Tie as tie
+
+of-py-requires : tie.Need-of-py-requires
+of-py-requires c κs = search needs
+
+shown-requires : tie.Need-shown-requires
+shown-requires c κs = search needs
+
+returns : tie.Need-returns
+returns c = c .shown .ensures ∙ ap shownOf (c .before .of-py .ensures) ∙ shown-same _
+
+pub from-ps-spec : {M : Type 1} → statement M
+from-ps-spec = tie.close (tie.spec of-py-requires shown-requires returns)

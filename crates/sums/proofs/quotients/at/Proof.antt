@@ -1,0 +1,35 @@
+-- `sums::quotients::at` meets its contract: both determinants are made of the same two lists. Assumes nothing.
+use borrow.Author.Needs.{needs}
+use Rattle.sums.specs.Quotients.{ratioAt}
+use Rattle.sums.proofs.quotients.at.Statement.{statement}
+use Rattle.sums.proofs.quotients.at.Tie as tie
+
+by-p-requires : tie.Need-by-p-requires
+by-p-requires c κs = search needs
+
+by-t-requires : tie.Need-by-t-requires
+by-t-requires c κs = search needs
+
+determinant-requires : tie.Need-determinant-requires
+determinant-requires c κs = search needs
+
+determinant-requires-2 : tie.Need-determinant-requires-2
+determinant-requires-2 c κs = search needs
+
+ratio-requires : tie.Need-ratio-requires
+ratio-requires c κs = search needs
+
+returns : tie.Need-returns
+unfolding ratioAt
+returns c = rw (c .ratio .ensures, c .before .determinant2 .ensures, c .before .before .before .before .determinant .ensures, c .before .before .before .before .before .before .before .by-t .ensures, c .before .before .before .before .before .before .before .before .by-p .ensures)
+
+pub at-spec : {M : Type 1} → statement M
+at-spec =
+    tie.close
+    (tie.spec
+    by-p-requires
+    by-t-requires
+    determinant-requires
+    determinant-requires-2
+    ratio-requires
+    returns)

@@ -1,0 +1,88 @@
+-- The four kinds of query, and the query whose kind is a number. Definitions only.
+use Prim.Native.Nat.{ℕ}
+use mathlib.Core.Bool.{Bool, true, false, cond, _&&_}
+use lib.Dec.{eqb}
+use lib.Ieee.{Float, le}
+use Rattle.arith.specs.Printed.{less, printed}
+use Rattle.basic.specs.declared.State.{State}
+use Rattle.backward.specs.T1ph.{t1ph}
+use Rattle.backward.specs.T1ps.{t1ps}
+use Rattle.backward.specs.P1hs.{p1hs}
+use Rattle.backward.specs.Region2.{t2ph, t2ps, p2hs}
+use Rattle.sums.specs.States.{stateAt, givenOf}
+use Rattle.sums.specs.Places.{wild, pTriple, placePT, placePY}
+use Rattle.sums.specs.Answers.{near, hMargin, sMargin, singleOf, markedOf, wetOf}
+use Rattle.sums.specs.declared.Given.{Given}
+use Rattle.sums.specs.declared.Given.the-variants.{Enthalpy, Entropy}
+use Rattle.sums.specs.declared.places.Place.{Place}
+use Rattle.sums.specs.declared.places.Place.the-variants as Place
+use Rattle.sums.specs.declared.Answer.{Answer}
+use Rattle.sums.specs.declared.Answer.the-variants.{Single, Wet, Refused}
+
+-- ---- (p,T): nothing was asked back, so the state is verified
+
+abbrev pub placedPT : Float → Float → Place → Answer
+placedPT p t (Place.Region n) = Single (singleOf n p t true)
+placedPT p t (Place.Refused n) = Refused n
+
+unfoldable pub answerPT : Float → Float → Answer
+answerPT p t = placedPT p t (placePT p t)
+
+-- ---- (p,h) and (p,s): in regions 1 and 2 T is the backward equation's, with no second look at the (p,T) table
+
+unfoldable pub temperatureOf : Given → ℕ → Float → Float → Float
+temperatureOf given region p y = cond (eqb region 1) (givenOf given (t1ph p y) (t1ps p y)) (givenOf given (t2ph p y) (t2ps p y))
+
+abbrev pub placedPY : Given → Float → Float → Place → Answer
+placedPY given p y (Place.Region n) =
+    cond (eqb n 4) (Wet (wetOf given p y)) (Single (markedOf given n p y (temperatureOf given n p y)))
+placedPY given p y (Place.Refused n) = Refused n
+
+unfoldable pub answerPY : Given → Float → Float → Answer
+answerPY given p y = placedPY given p y (placePY given p y)
+
+-- ---- (h,s): the first of two candidates, region 1 before region 2, that passes
+
+-- p by p(h,s)
+unfoldable pub pressureOf : ℕ → Float → Float → Float
+pressureOf region h s = cond (eqb region 1) (p1hs h s) (p2hs h s)
+
+-- the (p,T) table gives that region without refusal
+abbrev pub isIn : ℕ → Place → Bool
+isIn region (Place.Region n) = eqb n region
+isIn region (Place.Refused n) = false
+
+-- both h and s of a state within their margins
+abbrev pub bothNear : Float → Float → State → Float → Float → Bool
+bothNear hMargin sMargin a h s = near hMargin (a .h) h && near sMargin (a .s) s
+
+-- p is not below 0.000611213, the table agrees, and forward h and s are within 0.2 and 0.0005 of those asked
+unfoldable pub passes : ℕ → Float → Float → Float → Float → Bool
+passes region p t h s =
+    le pTriple p && isIn region (placePT p t) && bothNear (printed false 2 (less 1)) (printed false 5 (less 4)) (stateAt region p t) h s
+
+-- the candidate of a region, with T by T(p,h), whose subregion of 2 is chosen anew by p and h; refused by 7 if it does not pass
+unfoldable pub candidateOf : ℕ → Float → Float → Answer
+candidateOf region h s =
+    let p = pressureOf region h s in
+    let t = temperatureOf Enthalpy region p h in
+    cond (passes region p t h s) (Single (singleOf region p t (bothNear hMargin sMargin (stateAt region p t) h s))) (Refused 7)
+
+-- the first of two answers, unless it is refused
+abbrev pub firstOf : Answer → Answer → Answer
+firstOf (Single a) other = Single a
+firstOf (Wet a) other = Wet a
+firstOf (Refused n) other = other
+
+unfoldable pub answerHS : Float → Float → Answer
+answerHS h s = cond (wild h s) (Refused 1) (firstOf (candidateOf 1 h s) (candidateOf 2 h s))
+
+-- ---- by number: kinds 1 to 4 are (p,T), (p,h), (p,s), (h,s)
+
+unfoldable pub answerOf : ℕ → Float → Float → Answer
+answerOf kind x y =
+    cond (eqb kind 1) (answerPT x y)
+    (cond (eqb kind 2) (answerPY Enthalpy x y)
+    (cond (eqb kind 3) (answerPY Entropy x y)
+    (cond (eqb kind 4) (answerHS x y)
+    (Refused 9))))

@@ -1,0 +1,62 @@
+// The candidates of an (h,s) query (specs/Queries.antt).
+use crate::Given;
+use crate::marks::near;
+use crate::marks::with_mark;
+use crate::outcomes::Outcome;
+use crate::outcomes::temperature;
+use crate::places::Place;
+use crate::places::place_pt;
+use crate::states::worked_at;
+use basic::State;
+ghost use mathlib.Core.Path.{_≡_};
+ghost use Rattle.sums.specs.Queries.{pressureOf, isIn, bothNear, candidateOf};
+ghost use Rattle.sums.specs.Outcomes.{outcomeOf};
+
+// p in MPa by the backward equation of region 1 or 2 for h in kJ/kg and s in kJ/(kg K).
+fn pressure(region: u64, h: f64, s: f64) -> f64
+    ensures { λ r. ⌜ r ≡ pressureOf region h s ⌝ }
+{
+    if region == 1 {
+        backward::p1_hs(h, s)
+    } else {
+        backward::p2_hs(h, s)
+    }
+}
+
+// Whether a place is that region.
+fn is_in(region: u64, place: Place) -> bool
+    ensures { λ r. ⌜ r ≡ isIn region place ⌝ }
+{
+    match place {
+        Place::Region(n) => n == region,
+        Place::Refused(_) => false,
+    }
+}
+
+// Whether both h and s of a state are within the margins dh and ds.
+fn both_near(dh: f64, ds: f64, state: State, h: f64, s: f64) -> bool
+    ensures { λ r. ⌜ r ≡ bothNear dh ds state h s ⌝ }
+{
+    near(dh, state.h, h) && near(ds, state.s, s)
+}
+
+// The state of region 1 or 2 that h in kJ/kg and s in kJ/(kg K) point to, or 7 if it does not pass.
+pub fn candidate(region: u64, h: f64, s: f64) -> Outcome
+    ensures { λ r. ⌜ r ≡ outcomeOf (candidateOf region h s) ⌝ }
+{
+    let p = pressure(region, h, s);
+    if !(p >= 0.000611213) {
+        return Outcome::Refused(7);
+    }
+    let t = temperature(Given::Enthalpy, region, p, h);
+    if !is_in(region, place_pt(p, t)) {
+        return Outcome::Refused(7);
+    }
+    let a = worked_at(region, p, t);
+    let state = a.state;
+    if !both_near(0.2, 0.0005, state, h, s) {
+        return Outcome::Refused(7);
+    }
+    let verified = both_near(0.08, 0.0001, state, h, s);
+    Outcome::Single(with_mark(region, p, t, a, verified))
+}
