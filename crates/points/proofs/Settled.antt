@@ -6,10 +6,12 @@ use Rattle.arith.specs.Printed.{printed}
 use Rattle.arith.specs.Bits.{finite}
 use Rattle.backward.specs.H2ab.{h2ab}
 use Rattle.backward.specs.Subregions.{byHs}
+use Rattle.sheet.specs.Versions.{versionFor}
+use Rattle.sheet.specs.Write.{sheetOf}
 use Rattle.sums.specs.Places.{placePT, tableOf}
 use Rattle.sums.specs.Queries.{answerPT}
 use Rattle.points.specs.Marked.{MarkedPoint, marked, readingOf}
 
 pub settled : map (λ (x : MarkedPoint). readingOf (x .asked)) marked ≡ map (λ (x : MarkedPoint). x .reading) marked
-unfolding marked readingOf answerPT placePT tableOf byHs h2ab finite printed round ofInt lt le add mul
+unfolding marked readingOf sheetOf versionFor answerPT placePT tableOf byHs h2ab finite printed round ofInt lt le add mul
 settled = refl

@@ -8,22 +8,26 @@ use Rattle.arith.specs.Printed.{less, printed}
 use Rattle.backward.specs.Subregions.{byHs}
 use Rattle.backward.specs.declared.subregion.Subregion.{Subregion}
 use Rattle.backward.specs.declared.subregion.Subregion.the-variants.{A, B, C}
+use Rattle.sheet.specs.Write.{sheetOf}
 use Rattle.sums.specs.Answers.{numberOf, regionOf}
 use Rattle.sums.specs.Queries.{answerPT}
 
--- the answer to p in MPa and T in K; the subregion of 2 of h in kJ/kg and s in kJ/(kg K)
+-- the answer to p in MPa and T in K; the subregion of 2 of h in kJ/kg and s in kJ/(kg K); the sheet of a note and rows
 pub data Question : Type 0 where
   state : Float → Float → Question
   subregion : Float → Float → Question
+  sheet : List ℕ → List ℕ → Question
 
--- the refusal number and the region of an answer, each 0 where there is none; a subregion
+-- the refusal number and the region of an answer, each 0 where there is none; a subregion; bytes
 pub data Reading : Type 0 where
   answer : ℕ → ℕ → Reading
   lies : Subregion → Reading
+  bytes : List ℕ → Reading
 
 unfoldable pub readingOf : Question → Reading
 readingOf (state p t) = answer (numberOf (answerPT p t)) (regionOf (answerPT p t))
 readingOf (subregion h s) = lies (byHs h s)
+readingOf (sheet note rows) = bytes (sheetOf note rows)
 
 pub record MarkedPoint : Type 0 where
   pub asked : Question
@@ -60,4 +64,5 @@ marked =
     ∷ subregion (f64 2800) (f64 6) reads lies B
     ∷ subregion (f64 2800) (tenths 65) reads lies A
     ∷ subregion (f64 2800) (tenths 95) reads lies A
+    ∷ sheet [] [] reads bytes (0 ∷ 0 ∷ 0 ∷ 0 ∷ 0 ∷ 0 ∷ 0 ∷ 0 ∷ 1 ∷ 0 ∷ 0 ∷ 0 ∷ 0 ∷ 0 ∷ 0 ∷ 0 ∷ [])
     ∷ []

@@ -17,7 +17,7 @@ use Rattle.sums.specs.declared.places.Place.{Place}
 use Rattle.sums.specs.declared.places.Place.the-variants as Place
 use Rattle.sums.specs.declared.Answer.{Answer}
 use Rattle.sums.specs.declared.Answer.the-variants as Answer
-use Rattle.sums.specs.Places.{wild, outside, t273, t623, t1073, pTriple, pMost, pEnd, saturatedOf, denseOf, placePY}
+use Rattle.sums.specs.Places.{wild, outside, t273, t623, t1073, pTriple, pMost, pEnd, saturatedOf, denseOf, rangedOf, placePY}
 use Rattle.sums.specs.Answers.{markedOf, wetOf}
 use Rattle.sums.specs.Queries.{temperatureOf, placedPY, answerPT, answerPY, answerHS, answerOf}
 use Rattle.settle.specs.Settle.{bracketOf, judgedBy, judgedOf}
@@ -46,7 +46,7 @@ dense given p y =
     either (le y (propertyAt given 1 p t623)) liquid (either (le (propertyAt given 2 p (tB23 p)) y) vapour none)
 
 placed : (given : Given) (p y : Float) → Phase (placePY given p y)
-unfolding placePY
+unfolding placePY rangedOf
 placed given p y =
     either (wild p y) none
     (either (outside pTriple pMost p) none

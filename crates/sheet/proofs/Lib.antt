@@ -1,10 +1,9 @@
 -- `VersionLaws`: what the other proofs know of the versions. `WordLaws`, `RowLaws`, `ReadLaws`, `WriteLaws`: what the definitions mean for each other.
--- `RoundTrip`: a written sheet reads back, and one that reads is written again. `Marked`: the marked point. `Only`: no second result.
+-- `RoundTrip`: a written sheet reads back, and one that reads is written again. `Only`: no second result.
 pub mod VersionLaws
 pub mod WordLaws
 pub mod RowLaws
 pub mod ReadLaws
 pub mod WriteLaws
 pub mod RoundTrip
-pub mod Marked
 pub mod Only

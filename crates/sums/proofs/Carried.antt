@@ -1,6 +1,6 @@
 -- What holds of answers holds of the outcomes that the code carries in their place: nothing of an answer is lost, the first that is not refused is the same,
 -- and so is the quotient at a state. Assumes nothing.
-use mathlib.Core.Path.{_≡_, refl}
+use mathlib.Core.Path.{_≡_, refl, ap, _∙_}
 use mathlib.Core.List.{[], _∷_}
 use mathlib.Core.Logic.{⊎-elim}
 use Prim.Native.Nat.{ℕ}
@@ -8,19 +8,21 @@ use denote.Enum.Declared.{tagOf}
 use types.Run.{OneOf}
 use Rattle.sums.proofs.outcomes.Outcome.{the-type}
 use Rattle.sums.specs.Queries.{firstOf}
-use Rattle.sums.specs.Quotients.{ratioAt, quotientAt}
-use Rattle.sums.specs.Outcomes.{outcomeOf, shownOf}
+use Rattle.sums.specs.Quotients.{quotientAt}
+use Rattle.sums.specs.Outcomes.{outcomeOf, quotientCarried, shownOf}
 use Rattle.sums.specs.declared.Answer.{Answer}
 use Rattle.sums.specs.declared.Answer.the-variants as Answer
-use Rattle.sums.specs.declared.Derivative.{Derivative}
-use Rattle.sums.specs.declared.Derivative.the-variants as Derivative
 use Rattle.sums.specs.declared.outcomes.Outcome.{Outcome}
 use Rattle.sums.specs.declared.outcomes.Outcome.the-variants.{Single, Wet, Refused}
 
-pub shown-same : (a : Answer) → shownOf (outcomeOf a) ≡ a
+shown-same : (a : Answer) → shownOf (outcomeOf a) ≡ a
 shown-same (Answer.Single a) = refl
 shown-same (Answer.Wet a) = refl
 shown-same (Answer.Refused n) = refl
+
+-- what is shown of an answer's outcome is the answer
+pub shown : {r : Answer} {o : Outcome} (a : Answer) → r ≡ shownOf o → o ≡ outcomeOf a → r ≡ a
+shown a e carried = e ∙ ap shownOf carried ∙ shown-same a
 
 -- ---- the first of two
 
@@ -41,11 +43,6 @@ first-kept (Wet a) other k = refl
 first-kept (Refused n) other k = ⊎-elim (λ z. cc) (λ z. cc) k
 
 -- ---- the quotient
-
-abbrev pub quotientCarried : Outcome → ℕ → ℕ → ℕ → Derivative
-quotientCarried (Single a) z x y = ratioAt (a .single) (a .response) z x y
-quotientCarried (Wet a) z x y = Derivative.Refused 8
-quotientCarried (Refused n) z x y = Derivative.Refused n
 
 pub quotient-same : (a : Answer) (z x y : ℕ) → quotientAt a z x y ≡ quotientCarried (outcomeOf a) z x y
 quotient-same (Answer.Single a) z x y = refl

@@ -4,6 +4,9 @@ use Prim.Native.Nat.{ℕ}
 use mathlib.Core.Bool.{Bool}
 use lib.Ieee.{Float}
 use Rattle.sums.specs.States.{stateAt, responseAt}
+use Rattle.sums.specs.Quotients.{ratioAt}
+use Rattle.sums.specs.declared.Derivative.{Derivative}
+use Rattle.sums.specs.declared.Derivative.the-variants as Derivative
 use Rattle.sums.specs.declared.Single.{Single}
 use Rattle.sums.specs.declared.Answer.{Answer}
 use Rattle.sums.specs.declared.Answer.the-variants as Answer
@@ -30,6 +33,12 @@ abbrev pub outcomeOf : Answer → Outcome
 outcomeOf (Answer.Single a) = Outcome.Single (fullOf a)
 outcomeOf (Answer.Wet a) = Outcome.Wet a
 outcomeOf (Answer.Refused n) = Outcome.Refused n
+
+-- the derivative at an outcome
+abbrev pub quotientCarried : Outcome → ℕ → ℕ → ℕ → Derivative
+quotientCarried (Outcome.Single a) z x y = ratioAt (a .single) (a .response) z x y
+quotientCarried (Outcome.Wet a) z x y = Derivative.Refused 8
+quotientCarried (Outcome.Refused n) z x y = Derivative.Refused n
 
 -- the answer alone
 abbrev pub shownOf : Outcome → Answer

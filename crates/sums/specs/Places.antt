@@ -87,13 +87,18 @@ denseOf given p y =
     (cond (le (propertyAt given 2 p (tB23 p)) y) (Region 2)
     (Refused 5))
 
+-- y runs from that of region 1 at 273.15 K to that of region 2 at 1073.15 K
+unfoldable pub rangedOf : Given → Float → Float → Place
+rangedOf given p y =
+    cond (outside (propertyAt given 1 p t273) (propertyAt given 2 p t1073) y) (Refused 6)
+    (cond (le p pEnd) (saturatedOf given p y)
+    (denseOf given p y))
+
 unfoldable pub placePY : Given → Float → Float → Place
 placePY given p y =
     cond (wild p y) (Refused 1)
     (cond (outside pTriple pMost p) (Refused 2)
-    (cond (outside (propertyAt given 1 p t273) (propertyAt given 2 p t1073) y) (Refused 6)
-    (cond (le p pEnd) (saturatedOf given p y)
-    (denseOf given p y))))
+    (rangedOf given p y))
 
 -- the temperature at which region 1 ends, and at which region 2 begins: the saturation line up to P, region 3's boundaries above
 unfoldable pub liquidEnd : Float → Float

@@ -56,17 +56,22 @@ isIn region (Place.Refused n) = false
 abbrev pub bothNear : Float → Float → State → Float → Float → Bool
 bothNear hMargin sMargin a h s = near hMargin (a .h) h && near sMargin (a .s) s
 
--- p is not below 0.000611213, the table agrees, and forward h and s are within 0.2 and 0.0005 of those asked
-unfoldable pub passes : ℕ → Float → Float → Float → Float → Bool
-passes region p t h s =
-    le pTriple p && isIn region (placePT p t) && bothNear (printed false 2 (less 1)) (printed false 5 (less 4)) (stateAt region p t) h s
+-- the table agrees, and forward h and s are within 0.2 and 0.0005 of those asked
+unfoldable pub agrees : ℕ → Float → Float → Float → Float → Bool
+agrees region p t h s =
+    isIn region (placePT p t) && bothNear (printed false 2 (less 1)) (printed false 5 (less 4)) (stateAt region p t) h s
 
--- the candidate of a region, with T by T(p,h), whose subregion of 2 is chosen anew by p and h; refused by 7 if it does not pass
+-- the state at p and T, verified by both h and s; refused by 7 where it does not agree
+unfoldable pub agreedOf : ℕ → Float → Float → Float → Float → Answer
+agreedOf region p t h s =
+    cond (agrees region p t h s) (Single (singleOf region p t (bothNear hMargin sMargin (stateAt region p t) h s))) (Refused 7)
+
+-- the candidate of a region: p is not below 0.000611213, and T is that of T(p,h), whose subregion of 2 is chosen anew by p and h
 unfoldable pub candidateOf : ℕ → Float → Float → Answer
 candidateOf region h s =
     let p = pressureOf region h s in
     let t = temperatureOf Enthalpy region p h in
-    cond (passes region p t h s) (Single (singleOf region p t (bothNear hMargin sMargin (stateAt region p t) h s))) (Refused 7)
+    cond (le pTriple p) (agreedOf region p t h s) (Refused 7)
 
 -- the first of two answers, unless it is refused
 abbrev pub firstOf : Answer → Answer → Answer

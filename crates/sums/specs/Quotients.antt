@@ -76,6 +76,9 @@ quotientAt (Answer.Refused n) z x y = Refused n
 abbrev pub known : ℕ → Bool
 known n = leb 1 n && leb n 8
 
+unfoldable pub allKnown : ℕ → ℕ → ℕ → Bool
+allKnown z x y = known z && (known x && known y)
+
 -- Unknown properties come first, then the query's own refusals, of which that of an unknown kind is the same 9, then 8.
 unfoldable pub quotientOf : ℕ → Float → Float → ℕ → ℕ → ℕ → Derivative
-quotientOf kind c d z x y = cond (known z && known x && known y) (quotientAt (answerOf kind c d) z x y) (Refused 9)
+quotientOf kind c d z x y = cond (allKnown z x y) (quotientAt (answerOf kind c d) z x y) (Refused 9)

@@ -9,7 +9,7 @@ use crate::places::place_pt;
 use crate::states::worked_at;
 use basic::State;
 ghost use mathlib.Core.Path.{_≡_};
-ghost use Rattle.sums.specs.Queries.{pressureOf, isIn, bothNear, candidateOf};
+ghost use Rattle.sums.specs.Queries.{pressureOf, isIn, bothNear, agreedOf, candidateOf};
 ghost use Rattle.sums.specs.Outcomes.{outcomeOf};
 
 // p in MPa by the backward equation of region 1 or 2 for h in kJ/kg and s in kJ/(kg K).
@@ -40,23 +40,30 @@ fn both_near(dh: f64, ds: f64, state: State, h: f64, s: f64) -> bool
     near(dh, state.h, h) && near(ds, state.s, s)
 }
 
+// The state at p and T, if the (p,T) table and forward h and s agree.
+fn agreed(region: u64, p: f64, t: f64, h: f64, s: f64) -> Outcome
+    ensures { λ r. ⌜ r ≡ outcomeOf (agreedOf region p t h s) ⌝ }
+{
+    if is_in(region, place_pt(p, t)) {
+        let a = worked_at(region, p, t);
+        let state = a.state;
+        if both_near(0.2, 0.0005, state, h, s) {
+            let verified = both_near(0.08, 0.0001, state, h, s);
+            return Outcome::Single(with_mark(region, p, t, a, verified));
+        }
+        return Outcome::Refused(7);
+    }
+    Outcome::Refused(7)
+}
+
 // The state of region 1 or 2 that h in kJ/kg and s in kJ/(kg K) point to, or 7 if it does not pass.
 pub fn candidate(region: u64, h: f64, s: f64) -> Outcome
     ensures { λ r. ⌜ r ≡ outcomeOf (candidateOf region h s) ⌝ }
 {
     let p = pressure(region, h, s);
-    if !(p >= 0.000611213) {
-        return Outcome::Refused(7);
+    if p >= 0.000611213 {
+        let t = temperature(Given::Enthalpy, region, p, h);
+        return agreed(region, p, t, h, s);
     }
-    let t = temperature(Given::Enthalpy, region, p, h);
-    if !is_in(region, place_pt(p, t)) {
-        return Outcome::Refused(7);
-    }
-    let a = worked_at(region, p, t);
-    let state = a.state;
-    if !both_near(0.2, 0.0005, state, h, s) {
-        return Outcome::Refused(7);
-    }
-    let verified = both_near(0.08, 0.0001, state, h, s);
-    Outcome::Single(with_mark(region, p, t, a, verified))
+    Outcome::Refused(7)
 }

@@ -21,7 +21,7 @@ use basic::Region2;
 ghost use mathlib.Core.Path.{_≡_};
 ghost use mathlib.Core.Bool.{false};
 ghost use lib.Dec.{eqb};
-ghost use Rattle.sums.specs.Places.{saturatedOf, denseOf};
+ghost use Rattle.sums.specs.Places.{saturatedOf, denseOf, rangedOf};
 ghost use Rattle.sums.specs.Queries.{temperatureOf, placedPY, answerPT, answerPY, answerHS, answerOf};
 ghost use Rattle.sums.specs.Outcomes.{outcomeOf, shownOf};
 
@@ -113,6 +113,21 @@ fn dense(given: Given, p: f64, y: f64) -> Outcome
     Outcome::Refused(5)
 }
 
+// Within the range of y at p, the state by the way that p lies to P.
+fn ranged(given: Given, p: f64, y: f64) -> Outcome
+    ensures { λ r. ⌜ r ≡ outcomeOf (placedPY given p y (rangedOf given p y)) ⌝ }
+{
+    let least = property(given, 1, p, 273.15);
+    let most = property(given, 2, p, 1073.15);
+    if outside(least, most, y) {
+        return Outcome::Refused(6);
+    }
+    if saturates(p) {
+        return saturated(given, p, y);
+    }
+    dense(given, p, y)
+}
+
 // From p in MPa and an h in kJ/kg or s in kJ/(kg K).
 pub fn of_py(given: Given, p: f64, y: f64) -> Outcome
     ensures { λ r. ⌜ r ≡ outcomeOf (answerPY given p y) ⌝ }
@@ -123,15 +138,7 @@ pub fn of_py(given: Given, p: f64, y: f64) -> Outcome
     if outside(0.000611213, 100.0, p) {
         return Outcome::Refused(2);
     }
-    let least = property(given, 1, p, 273.15);
-    let most = property(given, 2, p, 1073.15);
-    if outside(least, most, y) {
-        return Outcome::Refused(6);
-    }
-    if saturates(p) {
-        return saturated(given, p, y);
-    }
-    dense(given, p, y)
+    ranged(given, p, y)
 }
 
 // From h in kJ/kg and s in kJ/(kg K).

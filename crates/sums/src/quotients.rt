@@ -7,8 +7,10 @@ use crate::outcomes::Outcome;
 use crate::outcomes::of_kind;
 use basic::Response;
 ghost use mathlib.Core.Path.{_≡_};
+ghost use mathlib.Core.Bool.{true};
 ghost use Prim.Native.Nat.{_≤_};
-ghost use Rattle.sums.specs.Quotients.{byP, byT, slope, determinant, ratioOf, ratioAt, known, quotientOf};
+ghost use Rattle.sums.specs.Outcomes.{quotientCarried};
+ghost use Rattle.sums.specs.Quotients.{byP, byT, slope, determinant, ratioOf, ratioAt, known, allKnown, quotientOf};
 
 // By p at constant T: of p, T, v, u, h, s, g, f.
 fn by_p(a: Single, r: Response) -> [f64; 8]
@@ -46,6 +48,13 @@ fn known(n: u64) -> bool
     1 <= n && n <= 8
 }
 
+// Whether z, x and y are.
+fn all_known(z: u64, x: u64, y: u64) -> bool
+    ensures { λ r. ⌜ r ≡ allKnown z x y ⌝ }
+{
+    known(z) && (known(x) && known(y))
+}
+
 // Property n's derivative.
 fn slope(slopes: &[f64; 8], n: u64) -> f64
     requires { ⌜ (1 ≤ n) × (n ≤ 8) ⌝ }
@@ -77,7 +86,7 @@ fn ratio(above: f64, below: f64) -> Derivative
 
 // The quotient at a state.
 fn at(a: Full, z: u64, x: u64, y: u64) -> Derivative
-    requires { ⌜ (1 ≤ z) × (z ≤ 8) × (1 ≤ x) × (x ≤ 8) × (1 ≤ y) × (y ≤ 8) ⌝ }
+    requires { ⌜ allKnown z x y ≡ true ⌝ }
     ensures { λ r. ⌜ r ≡ ratioAt (a .single) (a .response) z x y ⌝ }
 {
     let single = a.single;
@@ -89,23 +98,25 @@ fn at(a: Full, z: u64, x: u64, y: u64) -> Derivative
     ratio(above, below)
 }
 
+// The quotient at what a query gave, which a state of one phase alone has.
+fn of_outcome(o: Outcome, z: u64, x: u64, y: u64) -> Derivative
+    requires { ⌜ allKnown z x y ≡ true ⌝ }
+    ensures { λ r. ⌜ r ≡ quotientCarried o z x y ⌝ }
+{
+    match o {
+        Outcome::Single(a) => at(a, z, x, y),
+        Outcome::Wet(_) => Derivative::Refused(8),
+        Outcome::Refused(n) => Derivative::Refused(n),
+    }
+}
+
 // The derivative of property z by property x at constant y, numbered 1 to 8, at the state that a
 // query gives; kind, c and d are those of `query`.
 pub fn quotient(kind: u64, c: f64, d: f64, z: u64, x: u64, y: u64) -> Derivative
     ensures { λ r. ⌜ r ≡ quotientOf kind c d z x y ⌝ }
 {
-    if !known(z) {
-        return Derivative::Refused(9);
+    if all_known(z, x, y) {
+        return of_outcome(of_kind(kind, c, d), z, x, y);
     }
-    if !known(x) {
-        return Derivative::Refused(9);
-    }
-    if !known(y) {
-        return Derivative::Refused(9);
-    }
-    match of_kind(kind, c, d) {
-        Outcome::Single(a) => at(a, z, x, y),
-        Outcome::Wet(_) => Derivative::Refused(8),
-        Outcome::Refused(n) => Derivative::Refused(n),
-    }
+    Derivative::Refused(9)
 }

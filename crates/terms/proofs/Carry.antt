@@ -1,6 +1,6 @@
 -- What the proofs on carried powers cite: going on from x^k gives x^m, and the powers that a row takes from the one carried. Assumes nothing.
 use mathlib.Core.Path.{_≡_, refl, ap, ap₂, sym, subst, _∙_}
-use mathlib.Core.Bool.{Bool, true, false}
+use mathlib.Core.Bool.{true, false}
 use Prim.Native.Nat.{ℕ, zero, suc, _+_, _-_, _≤_}
 use native.Mathlib.Omega.{arith}
 use borrow.Author.Tests.{ltb-true, lt-ltb}
@@ -11,7 +11,7 @@ use lib.Ieee.{Float}
 use Rattle.arith.specs.F64.{f64, _⊗_, _⊘_}
 use Rattle.arith.specs.Power.{raised, powerOf}
 use Rattle.terms.specs.Sum.{gone}
-use Rattle.terms.specs.Carry.{times, carry, pastOf, lowestOf, Lowest, Powers}
+use Rattle.terms.specs.Carry.{times, carry, lowestOf, Lowest, Powers}
 use Rattle.terms.specs.declared.powers.Carried.{Carried}
 use Rattle.terms.proofs.Exponents.{never, flip, lowered-none, pos-less, neg-less}
 
@@ -39,16 +39,6 @@ unfolding carry
 power-of x e h = ap (λ (d : Carried). d .p) e ∙ ap (raised x) h
 
 -- ---- which power is carried for a row
-pub past-none : (e : ℤ) (k : ℕ) → e ≡ pos 0 → k ≡ pastOf e k
-unfolding pastOf
-past-none e k h = rw h
-
-pub past-size : (e : ℤ) (k : ℕ) → (e ≡ pos 0 → ⊥) → natAbs (e -ℤ pos 1) ≡ pastOf e k
-unfolding pastOf
-past-size (pos zero) k h = absurd (h refl)
-past-size (pos (suc m)) k h = let g : suc m - 1 ≡ m = omega arith in ap natAbs (pos-less (suc m) 1 (omega arith)) ∙ g
-past-size (negsuc m) k h = let g : suc (suc (m + 0)) ≡ suc (suc m) = omega arith in ap natAbs (neg-less m 0) ∙ g
-
 above : (a : ℕ) → ltZ (pos 1) (pos a) ≡ true → 2 ≤ a
 above a h = omega (arith, ltb-true 1 a h)
 

@@ -5,17 +5,15 @@ use Prim.Native.Nat.{ℕ, zero, suc, _+_, _-_, _<_, _≤_, _^_}
 use native.Mathlib.Omega.{arith}
 use borrow.Author.Tests.{ltb-true, le-leb, le-ltb}
 use lib.IntN.{ℤ, pos, negsuc, natAbs, negℤ, _+ℤ_, _-ℤ_, +ℤ-idr, +ℤ-assoc, negℤ-+ℤ}
-use lib.Signed.{mag, ltZ, nonNeg}
+use lib.Signed.{mag, ltZ, leZ}
 use lib.Dec.{T, ltb}
 use lib.Ieee.{Float, binary64, ofInt}
 use mir.Syntax.{w8, w16, w32}
 use mir.Val.{SFits, toZ, ofZ}
 use mir.Facts.{toZ-pos, toZ-ofZ, sfits-widen}
-use Rattle.arith.specs.F64.{f64, _⊗_, _⊘_}
-use Rattle.arith.specs.Power.{raised, powerOf}
+use Rattle.arith.specs.F64.{_⊗_}
 use Rattle.arith.proofs.Exponents.{wide}
 use Rattle.terms.specs.Sum.{scaled, gone}
-use Rattle.terms.specs.Carry.{turned}
 
 mag-cond : (t : Bool) (x y : ℤ) (n : ℕ) → mag x < n → mag y < n → mag (cond t x y) < n
 mag-cond true x y n h k = h
@@ -109,18 +107,11 @@ pub minus-abs : (w : ℤ) → ltZ w (pos 0) ≡ true → natAbs (pos 0 -ℤ w) �
 minus-abs (pos a) h = absurd (never a h)
 minus-abs (negsuc a) h = omega arith
 
--- ---- x^w from x to the size of w
-pub turned-below : (w : ℤ) (p : Float) → ltZ w (pos 0) ≡ true → f64 1 ⊘ p ≡ turned w p
-unfolding turned
-turned-below (pos a) p h = absurd (never a h)
-turned-below (negsuc a) p h = refl
+-- ---- what a test of a w with 0 says
+pub not-below : (w : ℤ) → leZ (pos 0) w ≡ true → ltZ w (pos 0) ≡ false
+not-below (pos a) h = le-ltb a 0 (omega arith)
+not-below (negsuc a) h = absurd (flip (sym h))
 
-pub turned-above : (w : ℤ) (p : Float) → ltZ w (pos 0) ≡ false → p ≡ turned w p
-unfolding turned
-turned-above (pos a) p h = refl
-turned-above (negsuc a) p h = absurd (flip h)
-
-pub turned-power : (x : Float) (w : ℤ) → turned w (raised x (natAbs w)) ≡ powerOf x w
-unfolding turned powerOf
-turned-power x (pos a) = refl
-turned-power x (negsuc a) = refl
+pub below : (w : ℤ) → leZ (pos 0) w ≡ false → ltZ w (pos 0) ≡ true
+below (pos a) h = absurd (flip (sym (le-leb 0 a (omega arith)) ∙ h))
+below (negsuc a) h = refl

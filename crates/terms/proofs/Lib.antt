@@ -1,4 +1,5 @@
+pub mod Only
 pub mod Exponents
 pub mod Carry
+pub mod RowTerms
 pub mod Table
-pub mod SixTerms

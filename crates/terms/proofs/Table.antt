@@ -1,20 +1,17 @@
--- The table that three slices hold, row by row: how many rows, and the next row at each place of a walk. Assumes nothing.
-use Prim.Native.Nat.{ℕ, zero, suc, min, _<_, _+_}
-use mathlib.Core.Path.{_≡_, refl, ap, sym, _∙_}
+-- The table that three slices hold, row by row, and the walks over it: the next row at each place, and the answer of what is left before and after it.
+-- Assumes nothing.
+use mathlib.Core.Path.{_≡_, refl}
 use mathlib.Core.List.{List, [], _∷_}
+use Prim.Native.Nat.{ℕ, zero, suc, min, _+_, _<_}
 use native.Mathlib.Omega.{arith}
 use native.Mathlib.Numerals.{add-one}
 use lib.ListN.{length, getD, drop}
 use lib.Seq.{drop-length}
-use lib.IntN.{ℤ, pos, negsuc, natAbs, _-ℤ_}
-use lib.Ieee.{Float, nan, binary64, ofInt}
-use mathlib.Core.Bool.{cond}
-use Rattle.arith.specs.F64.{_⊕_, _⊗_}
-use Rattle.arith.specs.Power.{raised}
-use Rattle.terms.specs.Sum.{Term, row, rows, scaled, gone, term, plus, sumFrom}
-use Rattle.terms.specs.Carry.{turned, pastOf}
-use Rattle.terms.proofs.Exponents.{lowered-none, gone-none, gone-first, turned-power}
-use Rattle.terms.proofs.Carry.{past-size}
+use lib.IntN.{ℤ, pos}
+use lib.Ieee.{Float, nan}
+use Rattle.terms.specs.Sum.{Term, row, rows, plus, sumFrom}
+use Rattle.terms.specs.Six.{plusSix}
+use Rattle.terms.specs.declared.Six.{Six}
 
 pub rows-length : (n : List Float) (i j : List ℤ) → min (length n) (min (length i) (length j)) ≡ length (rows n i j)
 unfolding rows
@@ -41,32 +38,7 @@ rows-next (x ∷ n) (y ∷ i) [] k h = absurd (omega arith)
 rows-next (x ∷ n) (y ∷ i) (z ∷ j) zero h = refl
 rows-next (x ∷ n) (y ∷ i) (z ∷ j) (suc k) h = rows-next n i j k (omega arith)
 
-never-zero : (m : ℕ) → pos (suc m) ≡ pos 0 → ⊥
-never-zero m e = let z : suc m ≡ 0 = cc in omega arith
-
-never-below : (m : ℕ) → negsuc m ≡ pos 0 → ⊥
-never-below m e = let z : _≡_ {A = ℕ} 0 1 = cc in omega arith
-
--- ---- a row's term from the powers carried for it
-pub value-row : (a b r n : Float) (i j : ℤ) {p q : Float} → p ≡ raised a (natAbs i) → q ≡ raised b (natAbs j)
-    → r ⊕ ((n ⊗ turned i p) ⊗ turned j q) ≡ plus 0 0 a b r (row i j n)
-unfolding plus term scaled
-value-row a b r n i j e f = rw (e, f, turned-power a i, turned-power b j, gone-none i, gone-none j, lowered-none i, lowered-none j)
-
-sloped : (a b r n : Float) (i j : ℤ) (k : ℕ) {p q : Float} → (j ≡ pos 0 → ⊥) → p ≡ raised a (natAbs i) → q ≡ raised b (pastOf j k)
-    → cond (gone j 1) r (r ⊕ (((n ⊗ ofInt binary64 j) ⊗ turned i p) ⊗ turned (j -ℤ pos 1) q)) ≡ plus 0 1 a b r (row i j n)
-unfolding plus term scaled
-sloped a b r n i j k h e f =
-    rw (e, f, ← past-size j k h, turned-power a i, turned-power b (j -ℤ pos 1), gone-none i, gone-first j h, lowered-none i)
-
-pub slope-row : (a b r n : Float) (i j : ℤ) (k : ℕ) {p q : Float} → p ≡ raised a (natAbs i) → q ≡ raised b (pastOf j k)
-    → cond (gone j 1) r (r ⊕ (((n ⊗ ofInt binary64 j) ⊗ turned i p) ⊗ turned (j -ℤ pos 1) q)) ≡ plus 0 1 a b r (row i j n)
-unfolding plus gone
-slope-row a b r n i (pos zero) k e f = rw (gone-none i)
-slope-row a b r n i (pos (suc m)) k e f = sloped a b r n i (pos (suc m)) k (λ z. never-zero m z) e f
-slope-row a b r n i (negsuc m) k e f = sloped a b r n i (negsuc m) k (λ z. never-below m z) e f
-
--- ---- a walk: the answer of what is left is the answer of the whole, before and after a row
+-- ---- a walk: the sum of what is left, begun at r, is the whole sum, before and after a row and at the end
 pub sum-next : (da db : ℕ) (a b r : Float) {q s : Float} (n : List Float) (i j : List ℤ) (k : ℕ) → k < length (rows n i j)
     → q ≡ plus da db a b r (row (getD i k (pos 0)) (getD j k (pos 0)) (getD n k nan))
     → sumFrom da db a b r (drop k (rows n i j)) ≡ s → sumFrom da db a b q (drop (k + 1) (rows n i j)) ≡ s
@@ -76,3 +48,25 @@ sum-next da db a b r n i j k h e p = rw (add-one, e) (rw (rows-next n i j k h) a
 pub sum-end : (da db : ℕ) (a b r : Float) {s : Float} (ts : List Term) (k : ℕ) → k ≡ length ts → sumFrom da db a b r (drop k ts) ≡ s → r ≡ s
 unfolding sumFrom
 sum-end da db a b r ts k h p = rw (h, drop-length) at p
+
+-- what the six sums s become over the rows ts, and the same of them
+abbrev pub sixFrom : Float → Float → Six → List Term → Six
+sixFrom a b s ts =
+    record {
+      f = sumFrom 0 0 a b (s .f) ts;
+      fa = sumFrom 1 0 a b (s .fa) ts;
+      faa = sumFrom 2 0 a b (s .faa) ts;
+      fb = sumFrom 0 1 a b (s .fb) ts;
+      fbb = sumFrom 0 2 a b (s .fbb) ts;
+      fab = sumFrom 1 1 a b (s .fab) ts;
+    }
+
+pub six-next : (a b : Float) (s : Six) {q w : Six} (n : List Float) (i j : List ℤ) (k : ℕ) → k < length (rows n i j)
+    → q ≡ plusSix a b s (row (getD i k (pos 0)) (getD j k (pos 0)) (getD n k nan))
+    → sixFrom a b s (drop k (rows n i j)) ≡ w → sixFrom a b q (drop (k + 1) (rows n i j)) ≡ w
+unfolding sumFrom plusSix
+six-next a b s n i j k h e p = rw (add-one, e) (rw (rows-next n i j k h) at p)
+
+pub six-end : (a b : Float) (s : Six) {w : Six} (ts : List Term) (k : ℕ) → k ≡ length ts → sixFrom a b s (drop k ts) ≡ w → s ≡ w
+unfolding sumFrom
+six-end a b s ts k h p = rw (h, drop-length) at p

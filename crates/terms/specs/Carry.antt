@@ -4,7 +4,7 @@ use mathlib.Core.Path.{_≡_}
 use mathlib.Core.Bool.{false}
 use lib.IntN.{ℤ, pos, negsuc, _-ℤ_}
 use lib.Ieee.{Float}
-use Rattle.arith.specs.F64.{f64, _⊕_, _⊗_, _⊘_}
+use Rattle.arith.specs.F64.{_⊗_}
 use Rattle.arith.specs.Power.{raised, powerOf}
 use Rattle.terms.specs.Sum.{gone}
 use Rattle.terms.specs.declared.powers.Carried.{Carried}
@@ -18,17 +18,6 @@ times p x (suc d) = times (p ⊗ x) x d
 -- x^k and its k
 unfoldable pub carry : Float → ℕ → Carried
 carry x k = record { k = k; p = raised x k }
-
--- x^e from p = x^|e|
-unfoldable pub turned : ℤ → Float → Float
-turned (pos k) p = p
-turned (negsuc k) p = f64 1 ⊘ p
-
--- the power carried for x^(e-1): |e - 1|, and none for e = 0, whose term is left out
-unfoldable pub pastOf : ℤ → ℕ → ℕ
-pastOf (pos zero) k = k
-pastOf (pos (suc m)) k = m
-pastOf (negsuc m) k = suc (suc m)
 
 -- the lowest power that x^e, x^(e-1), x^(e-2) are formed from: |e| below 0, e - 2 from 2 on, and none for 0 and 1
 unfoldable pub lowestOf : ℤ → ℕ → ℕ

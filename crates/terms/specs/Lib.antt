@@ -1,3 +1,4 @@
 pub mod Sum
 pub mod Six
 pub mod Carry
+pub mod Stored

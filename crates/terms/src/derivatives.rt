@@ -94,6 +94,20 @@ fn along(s: Two, f: f64, e: i8, x1: f64, y1: f64, x2: f64, y2: f64) -> Two
     }
 }
 
+// The six sums from their parts: u by A, v by B.
+fn gathered(f: f64, u: Two, v: Two, fab: f64) -> Six
+    ensures { λ r. ⌜ r ≡ record { f = f; fa = u .first; faa = u .second; fb = v .first; fbb = v .second; fab = fab } ⌝ }
+{
+    Six {
+        f,
+        fa: u.first,
+        faa: u.second,
+        fb: v.first,
+        fbb: v.second,
+        fab,
+    }
+}
+
 // One more row in all six sums, from the lowest powers p of A and q of B. Where I or J is 0, the
 // derivatives by its variable have no term.
 fn step(s: Six, n: f64, i: i8, j: i8, a: f64, b: f64, p: f64, q: f64) -> Six
@@ -103,57 +117,28 @@ fn step(s: Six, n: f64, i: i8, j: i8, a: f64, b: f64, p: f64, q: f64) -> Six
     let x = from_lowest(a, p, i);
     let y = from_lowest(b, q, j);
     let f = s.f + n * x.p0 * y.p0;
-    let ta = Two {
+    let u = Two {
         first: s.fa,
         second: s.faa,
     };
-    let tb = Two {
+    let v = Two {
         first: s.fb,
         second: s.fbb,
     };
     if i == 0 {
         if j == 0 {
-            return Six {
-                f,
-                fa: s.fa,
-                faa: s.faa,
-                fb: s.fb,
-                fbb: s.fbb,
-                fab: s.fab,
-            };
+            return gathered(f, u, v, s.fab);
         }
-        let v = along(tb, n * (j as f64), j, x.p0, y.p1, x.p0, y.p2);
-        return Six {
-            f,
-            fa: s.fa,
-            faa: s.faa,
-            fb: v.first,
-            fbb: v.second,
-            fab: s.fab,
-        };
+        let w = along(v, n * (j as f64), j, x.p0, y.p1, x.p0, y.p2);
+        return gathered(f, u, w, s.fab);
     }
     let ni = n * (i as f64);
-    let u = along(ta, ni, i, x.p1, y.p0, x.p2, y.p0);
+    let t = along(u, ni, i, x.p1, y.p0, x.p2, y.p0);
     if j == 0 {
-        return Six {
-            f,
-            fa: u.first,
-            faa: u.second,
-            fb: s.fb,
-            fbb: s.fbb,
-            fab: s.fab,
-        };
+        return gathered(f, t, v, s.fab);
     }
-    let fab = s.fab + ni * (j as f64) * x.p1 * y.p1;
-    let v = along(tb, n * (j as f64), j, x.p0, y.p1, x.p0, y.p2);
-    Six {
-        f,
-        fa: u.first,
-        faa: u.second,
-        fb: v.first,
-        fbb: v.second,
-        fab,
-    }
+    let w = along(v, n * (j as f64), j, x.p0, y.p1, x.p0, y.p2);
+    gathered(f, t, w, s.fab + ni * (j as f64) * x.p1 * y.p1)
 }
 
 // The sum over a table and its derivatives.

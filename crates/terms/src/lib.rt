@@ -1,8 +1,9 @@
-// One walker for every table of the papers: terms (n · A^I) · B^J summed in table order, with the
-// derivatives asked for (specs/Sum.antt). A table is lent as three slices, exponents as printed.
+// Sums over the tables of the papers: terms (n · A^I) · B^J added in table order, with the derivatives
+// asked for (specs/Sum.antt). A table is lent as three slices, its exponents as printed.
 mod derivatives;
 mod powers;
 mod rows;
+mod stored;
 mod sums;
 
 pub use derivatives::six_sums;

@@ -2,11 +2,10 @@
 // by going on multiplying, or from x^0 = 1 where a lower one is asked for (specs/Carry.antt). As x^k is
 // x^(k-1) · x, either way gives the same bits.
 ghost use mathlib.Core.Path.{_≡_};
-ghost use lib.IntN.{natAbs};
 ghost use mir.Val.{SFits};
 ghost use mir.Syntax.{w16};
-ghost use Rattle.arith.specs.Power.{raised};
-ghost use Rattle.terms.specs.Carry.{times, carry, turned};
+ghost use Rattle.arith.specs.Power.{raised, powerOf};
+ghost use Rattle.terms.specs.Carry.{times, carry};
 
 // A power p = x^k.
 pub struct Carried {
@@ -14,7 +13,7 @@ pub struct Carried {
     pub p: f64,
 }
 
-// p multiplied d times by x, by three at a turn.
+// p multiplied d times by x, by three at a turn: a turn costs as much as three products.
 fn times(p: f64, x: f64, d: u32) -> f64
     ensures { λ r. ⌜ r ≡ times p x d ⌝ }
 {
@@ -31,7 +30,7 @@ fn times(p: f64, x: f64, d: u32) -> f64
     if l == 1 { q } else { q * x }
 }
 
-// x^m from x^0.
+// x^m from x^0. It is mostly asked for a small m, and has to stay small itself to be placed in line.
 fn afresh(x: f64, m: u32) -> f64
     ensures { λ r. ⌜ r ≡ raised x m ⌝ }
 {
@@ -64,20 +63,31 @@ pub fn reach(x: f64, c: Carried, m: u32) -> Carried
     }
 }
 
-// x to the size of w.
-pub fn onto(x: f64, c: Carried, w: i32) -> Carried
-    requires { ⌜ (c .p ≡ raised x (c .k)) × (SFits w16 w) ⌝ }
-    ensures { λ r. ⌜ r ≡ carry x (natAbs w) ⌝ }
-{
-    if w < 0 {
-        return reach(x, c, (0 - w) as u32);
-    }
-    reach(x, c, w as u32)
+// A power p = x^k that is carried, and the power v that was asked for.
+pub struct Power {
+    pub k: u32,
+    pub p: f64,
+    pub v: f64,
 }
 
-// x^w from its p, x to the size of w.
-pub fn turned(w: i32, p: f64) -> f64
-    ensures { λ r. ⌜ r ≡ turned w p ⌝ }
+// x^w, from the power carried.
+pub fn onto(x: f64, c: Power, w: i32) -> Power
+    requires { ⌜ (c .p ≡ raised x (c .k)) × (SFits w16 w) ⌝ }
+    ensures { λ r. ⌜ (r .p ≡ raised x (r .k)) × (r .v ≡ powerOf x w) ⌝ }
 {
-    if w < 0 { 1.0 / p } else { p }
+    let from = Carried { k: c.k, p: c.p };
+    if 0 <= w {
+        let d = reach(x, from, w as u32);
+        return Power {
+            k: d.k,
+            p: d.p,
+            v: d.p,
+        };
+    }
+    let d = reach(x, from, (0 - w) as u32);
+    Power {
+        k: d.k,
+        p: d.p,
+        v: 1.0 / d.p,
+    }
 }

@@ -27,7 +27,16 @@ verified-requires c κs = search needs
 
 returns : tie.Need-returns
 unfolding mixtureOf
-returns c = rw (c .verified .ensures, c .before .mixed4 .ensures, c .before .before .mixed3 .ensures, c .before .before .before .mixed2 .ensures, c .before .before .before .before .mixed .ensures, c .before .before .before .before .before .given-of2 .ensures, c .before .before .before .before .before .before .given-of .ensures)
+returns c =
+    rw (
+      c .verified .ensures,
+      c .before .mixed4 .ensures,
+      c .before .before .mixed3 .ensures,
+      c .before .before .before .mixed2 .ensures,
+      c .before .before .before .before .mixed .ensures,
+      c .before .before .before .before .before .given-of2 .ensures,
+      c .before .before .before .before .before .before .given-of .ensures,
+    )
 
 pub mixture-spec : {M : Type 1} → statement M
 mixture-spec =

@@ -27,11 +27,25 @@ single-requires-2 c κs = search needs
 
 returns-2 : tie.Need-returns-2
 unfolding denseOf printed round ofBits
-returns-2 c = rw (← c .before .before .before .before .before .property .ensures, c .before .before .before .before .if1 .left, ← c .before .before .before .t-b23 .ensures, ← c .before .before .property2 .ensures, c .before .if2 .taken) (c .single2 .ensures)
+returns-2 c =
+    rw (
+      ← c .before .before .before .before .before .property .ensures,
+      c .before .before .before .before .if1 .left,
+      ← c .before .before .before .t-b23 .ensures,
+      ← c .before .before .property2 .ensures,
+      c .before .if2 .taken,
+    ) (c .single2 .ensures)
 
 returns-3 : tie.Need-returns-3
 unfolding denseOf printed round ofBits
-returns-3 c = rw (← c .before .before .before .before .property .ensures, c .before .before .before .if1 .left, ← c .before .before .t-b23 .ensures, ← c .before .property2 .ensures, c .if2 .left)
+returns-3 c =
+    rw (
+      ← c .before .before .before .before .property .ensures,
+      c .before .before .before .if1 .left,
+      ← c .before .before .t-b23 .ensures,
+      ← c .before .property2 .ensures,
+      c .if2 .left,
+    )
 
 pub dense-spec : {M : Type 1} → statement M
 dense-spec =

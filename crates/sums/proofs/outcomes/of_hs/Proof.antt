@@ -23,11 +23,24 @@ candidate-requires-2 c κs = search needs
 
 returns-2 : tie.Need-returns-2
 unfolding answerHS
-returns-2 c = rw (← c .before .before .before .before .before .wild .ensures, c .before .before .before .before .if1 .left, first-same, ← c .before .before .before .candidate .ensures, c .before .enum-told .given .1) (c .candidate2 .ensures)
+returns-2 c =
+    rw (
+      ← c .before .before .before .before .before .wild .ensures,
+      c .before .before .before .before .if1 .left,
+      first-same,
+      ← c .before .before .before .candidate .ensures,
+      c .before .enum-told .given .1,
+    ) (c .candidate2 .ensures)
 
 returns-3 : tie.Need-returns-3
 unfolding answerHS
-returns-3 c = rw (← c .before .before .before .wild .ensures, c .before .before .if1 .left, first-same, ← c .before .candidate .ensures) (first-kept _ _ (c .match .keys2))
+returns-3 c =
+    rw (
+      ← c .before .before .before .wild .ensures,
+      c .before .before .if1 .left,
+      first-same,
+      ← c .before .candidate .ensures,
+    ) (first-kept _ _ (c .match .keys2))
 
 pub of-hs-spec : {M : Type 1} → statement M
 of-hs-spec =

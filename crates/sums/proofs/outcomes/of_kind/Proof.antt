@@ -35,7 +35,13 @@ returns-4 c = rw (c .before .match .keys4) (c .of-hs .ensures)
 
 returns-5 : tie.Need-returns-5
 unfolding answerOf
-returns-5 c = rw (ne-eqb _ _ (c .match .rest .0 .0 .0 .1), ne-eqb _ _ (c .match .rest .0 .0 .1), ne-eqb _ _ (c .match .rest .0 .1), ne-eqb _ _ (c .match .rest .1))
+returns-5 c =
+    rw (
+      ne-eqb _ _ (c .match .rest .0 .0 .0 .1),
+      ne-eqb _ _ (c .match .rest .0 .0 .1),
+      ne-eqb _ _ (c .match .rest .0 .1),
+      ne-eqb _ _ (c .match .rest .1),
+    )
 
 pub of-kind-spec : {M : Type 1} → statement M
 of-kind-spec =

@@ -22,7 +22,13 @@ enum-known-n-2 c = search needs
 
 returns : tie.Need-returns
 unfolding answerPT workedAt
-returns c = rw (c .with-mark .ensures, c .before .worked-at .ensures, ← c .before .before .before .before .before .place-pt .ensures, c .before .before .before .n .given .1)
+returns c =
+    rw (
+      c .with-mark .ensures,
+      c .before .worked-at .ensures,
+      ← c .before .before .before .before .before .place-pt .ensures,
+      c .before .before .before .n .given .1,
+    )
 
 returns-2 : tie.Need-returns-2
 unfolding answerPT workedAt

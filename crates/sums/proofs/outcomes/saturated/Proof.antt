@@ -33,14 +33,34 @@ mixture-requires c κs = search needs
 
 returns-2 : tie.Need-returns-2
 unfolding saturatedOf propertyAt wetOf
-returns-2 c = rw (← c .before .before .before .before .before .before .before .ts .ensures, ← c .before .before .before .before .before .before .property .ensures, c .before .before .before .before .before .if1 .left, ← c .before .before .before .before .state .ensures, ← c .before .before .before .given-of .ensures, c .before .before .if2 .taken, c .mixture .ensures, c .before .state2 .ensures, c .before .before .before .before .state .ensures, c .before .before .before .before .before .before .before .ts .ensures)
+returns-2 c =
+    rw (
+      ← c .before .before .before .before .before .before .before .ts .ensures,
+      ← c .before .before .before .before .before .before .property .ensures,
+      c .before .before .before .before .before .if1 .left,
+      ← c .before .before .before .before .state .ensures,
+      ← c .before .before .before .given-of .ensures,
+      c .before .before .if2 .taken,
+      c .mixture .ensures,
+      c .before .state2 .ensures,
+      c .before .before .before .before .state .ensures,
+      c .before .before .before .before .before .before .before .ts .ensures,
+    )
 
 single-requires-2 : tie.Need-single-requires-2
 single-requires-2 c κs = search needs
 
 returns-3 : tie.Need-returns-3
 unfolding saturatedOf propertyAt wetOf
-returns-3 c = rw (← c .before .before .before .before .before .before .ts .ensures, ← c .before .before .before .before .before .property .ensures, c .before .before .before .before .if1 .left, ← c .before .before .before .state .ensures, ← c .before .before .given-of .ensures, c .before .if2 .left) (c .single2 .ensures)
+returns-3 c =
+    rw (
+      ← c .before .before .before .before .before .before .ts .ensures,
+      ← c .before .before .before .before .before .property .ensures,
+      c .before .before .before .before .if1 .left,
+      ← c .before .before .before .state .ensures,
+      ← c .before .before .given-of .ensures,
+      c .before .if2 .left,
+    ) (c .single2 .ensures)
 
 pub saturated-spec : {M : Type 1} → statement M
 saturated-spec =

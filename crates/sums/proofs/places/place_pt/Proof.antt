@@ -25,14 +25,30 @@ outside-requires-2 c κs = search needs
 
 returns-3 : tie.Need-returns-3
 unfolding placePT printed round ofBits ofInt
-returns-3 c = rw (← c .before .before .before .before .before .wild .ensures, c .before .before .before .before .if1 .left, ← c .before .before .before .outside .ensures, c .before .before .if2 .left, ← c .before .outside2 .ensures, c .if3 .taken)
+returns-3 c =
+    rw (
+      ← c .before .before .before .before .before .wild .ensures,
+      c .before .before .before .before .if1 .left,
+      ← c .before .before .before .outside .ensures,
+      c .before .before .if2 .left,
+      ← c .before .outside2 .ensures,
+      c .if3 .taken,
+    )
 
 table-requires : tie.Need-table-requires
 table-requires c κs = search needs
 
 returns-4 : tie.Need-returns-4
 unfolding placePT printed round ofBits ofInt
-returns-4 c = rw (← c .before .before .before .before .before .before .wild .ensures, c .before .before .before .before .before .if1 .left, ← c .before .before .before .before .outside .ensures, c .before .before .before .if2 .left, ← c .before .before .outside2 .ensures, c .before .if3 .left) (c .table .ensures)
+returns-4 c =
+    rw (
+      ← c .before .before .before .before .before .before .wild .ensures,
+      c .before .before .before .before .before .if1 .left,
+      ← c .before .before .before .before .outside .ensures,
+      c .before .before .before .if2 .left,
+      ← c .before .before .outside2 .ensures,
+      c .before .if3 .left,
+    ) (c .table .ensures)
 
 pub place-pt-spec : {M : Type 1} → statement M
 place-pt-spec =

@@ -1,8 +1,6 @@
 -- `sums::queries::query` meets its contract: an answer taken into an outcome and out again is the same. Assumes nothing.
 use borrow.Author.Needs.{needs}
-use mathlib.Core.Path.{ap, _∙_}
-use Rattle.sums.specs.Outcomes.{shownOf}
-use Rattle.sums.proofs.Carried.{shown-same}
+use Rattle.sums.proofs.Carried.{shown}
 use Rattle.sums.proofs.queries.query.Statement.{statement}
 use Rattle.sums.proofs.queries.query.Tie as tie
 
@@ -13,7 +11,7 @@ shown-requires : tie.Need-shown-requires
 shown-requires c κs = search needs
 
 returns : tie.Need-returns
-returns c = c .shown .ensures ∙ ap shownOf (c .before .of-kind .ensures) ∙ shown-same _
+returns c = shown _ (c .shown .ensures) (c .before .of-kind .ensures)
 
 pub query-spec : {M : Type 1} → statement M
 query-spec = tie.close (tie.spec of-kind-requires shown-requires returns)

@@ -1,6 +1,6 @@
 -- `terms::derivatives::six_sums` meets its contract: after k rows, the six sums of what is left, begun at s, are the whole sums, and x and y are powers of a and b. Assumes nothing.
 use Prim.Native.Nat.{_≤_, _<_, _-_}
-use mathlib.Core.Path.{_≡_, refl, ap, ap₂, _∙_}
+use mathlib.Core.Path.{_≡_, refl, ap₂, _∙_}
 use native.Mathlib.Omega.{arith}
 use denote.Ref.{now}
 use lib.ListN.{length, getD, drop}
@@ -11,12 +11,10 @@ use mir.Val.{toZ, ofZ}
 use mir.Facts.{toZ-ofZ}
 use borrow.Author.Needs.{needs}
 use Rattle.arith.specs.Power.{raised}
-use Rattle.arith.proofs.Literals.{one-is}
-use Rattle.terms.specs.Sum.{row, rows, sumFrom, sumOf}
+use Rattle.terms.specs.Sum.{row, rows, sumOf}
 use Rattle.terms.specs.Six.{sixOf, plusSix}
 use Rattle.terms.proofs.Carry.{held, power-of}
-use Rattle.terms.proofs.Table.{rows-within}
-use Rattle.terms.proofs.SixTerms.{sixFrom, six-next, six-end}
+use Rattle.terms.proofs.Table.{rows-within, sixFrom, six-next, six-end}
 use Rattle.terms.proofs.derivatives.six_sums.Statement.{statement}
 use Rattle.terms.proofs.derivatives.six_sums.Tie as tie
 

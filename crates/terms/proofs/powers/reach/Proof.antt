@@ -1,5 +1,5 @@
 -- `terms::powers::reach` meets its contract: x^m is the power carried, or that with m - k factors more, or m factors from x^0. Assumes nothing.
-use mathlib.Core.Path.{_≡_, sym, ap, _∙_}
+use mathlib.Core.Path.{sym, ap, _∙_}
 use native.Mathlib.Omega.{arith}
 use borrow.Author.Needs.{needs}
 use Rattle.arith.specs.Power.{raised}

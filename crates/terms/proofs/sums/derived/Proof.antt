@@ -4,7 +4,7 @@ use mathlib.Core.Path.{_≡_, refl, ap₂, _∙_}
 use native.Mathlib.Omega.{arith}
 use denote.Ref.{now}
 use lib.ListN.{length, getD, drop}
-use lib.IntN.{ℤ, pos}
+use lib.IntN.{ℤ}
 use lib.Ieee.{nan, ofInt, ofBits}
 use mir.Syntax.{w8}
 use mir.Facts.{toZ-ofZ}
@@ -13,9 +13,6 @@ use Rattle.terms.specs.Sum.{row, rows, plus, sumFrom, sumOf}
 use Rattle.terms.proofs.Table.{rows-within, sum-next, sum-end}
 use Rattle.terms.proofs.sums.derived.Statement.{statement}
 use Rattle.terms.proofs.sums.derived.Tie as tie
-use Rattle.terms.proofs.sums.derived.Reads as reads
-use Rattle.terms.proofs.sums.derived.Lts as lts
-use Rattle.terms.proofs.sums.plus.Reads as plus-reads
 
 abbrev Inv-loop : tie.InvT-loop
 Inv-loop n i j da db a b m r₀ k₀ r k = (k ≤ length (rows n i j)) × (sumFrom da db a b r (drop k (rows n i j)) ≡ sumOf (rows n i j) da db a b)

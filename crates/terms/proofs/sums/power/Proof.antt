@@ -1,15 +1,12 @@
--- `terms::sums::power` meets its contract: x to the size of e - d, from x^0, turned where e - d is below 0. Assumes nothing.
-use mathlib.Core.Path.{_≡_, sym, ap, ap₂, subst, _∙_}
-use lib.IntN.{ℤ, pos, natAbs, _-ℤ_}
+-- `terms::sums::power` meets its contract: x^(e-d), from x^0. Assumes nothing.
+use mathlib.Core.Path.{_≡_, sym, ap, subst, _∙_}
+use lib.IntN.{ℤ, pos, _-ℤ_}
 use mir.Syntax.{w16, w32}
 use mir.Val.{SFits, toZ, ofZ}
 use mir.Facts.{toZ-ofZ, sfits-widen}
 use borrow.Author.Needs.{needs}
 use Rattle.arith.specs.Power.{raised, powerOf}
 use Rattle.arith.proofs.Literals.{one-is}
-use Rattle.terms.specs.Carry.{turned}
-use Rattle.terms.proofs.Exponents.{turned-power}
-use Rattle.terms.proofs.Carry.{power-of}
 use Rattle.terms.proofs.sums.power.Statement.{statement}
 use Rattle.terms.proofs.sums.power.Tie as tie
 
@@ -23,18 +20,12 @@ onto-requires : tie.Need-onto-requires
 unfolding raised
 onto-requires c κs = (one-is, subst (SFits w16) (sym (read c)) (c .lowered .ensures .1))
 
-turned-requires : tie.Need-turned-requires
-turned-requires c κs = search needs
-
 returns : tie.Need-returns
 returns c =
-    let l = c .before .before in
+    let l = c .before in
     let s = l .before in
-    let w = l .lowered .result in
-    c .turned .ensures
-    ∙ ap₂ turned (read l) (power-of (s .args .x) (c .before .onto .ensures) (ap natAbs (read l)))
-    ∙ turned-power (s .args .x) w
-    ∙ ap (powerOf (s .args .x)) (l .lowered .ensures .0 ∙ ap (λ (z : ℤ). z -ℤ pos (s .args .d)) (toZ-ofZ (s .fits .e)))
+    c .onto .ensures .1
+    ∙ ap (powerOf (s .args .x)) (read l ∙ l .lowered .ensures .0 ∙ ap (λ (z : ℤ). z -ℤ pos (s .args .d)) (toZ-ofZ (s .fits .e)))
 
 pub power-spec : {M : Type 1} → statement M
-power-spec = tie.close (tie.spec lowered-requires onto-requires turned-requires returns)
+power-spec = tie.close (tie.spec lowered-requires onto-requires returns)

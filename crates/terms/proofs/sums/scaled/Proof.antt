@@ -1,21 +1,16 @@
 -- `terms::sums::scaled` meets its contract: the factors still to come, put to the product so far, give the whole product. Assumes nothing.
 use Prim.Native.Nat.{_≤_, _-_}
-use mathlib.Core.Path.{_≡_, ap, sym, subst, _∙_}
+use mathlib.Core.Path.{_≡_, ap, _∙_}
 use native.Mathlib.Omega.{arith}
 use lib.IntN.{ℤ, pos, _-ℤ_}
-use lib.Ieee.{Float, binary64, ofInt}
 use mir.Syntax.{w8, w16, w32}
 use mir.Val.{toZ, ofZ}
 use mir.Facts.{toZ-ofZ, sfits-widen}
 use borrow.Author.Needs.{needs}
-use Rattle.arith.specs.F64.{_⊗_}
 use Rattle.terms.specs.Sum.{scaled}
 use Rattle.terms.proofs.Exponents.{lowered-none, scaled-next}
 use Rattle.terms.proofs.sums.scaled.Statement.{statement}
 use Rattle.terms.proofs.sums.scaled.Tie as tie
-use Rattle.terms.proofs.sums.scaled.Reads as reads
-use Rattle.terms.proofs.sums.scaled.Lts as lts
-use Rattle.terms.proofs.sums.lowered.Reads as lowered-reads
 
 abbrev Inv-loop : tie.InvT-loop
 Inv-loop n e d f₀ i₀ f i = (i ≤ d) × (scaled f (toZ w8 e -ℤ pos i) (d - i) ≡ scaled n (toZ w8 e) d)

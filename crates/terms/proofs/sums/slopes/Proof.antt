@@ -1,23 +1,19 @@
 -- `terms::sums::slopes` meets its contract: after k rows, the sum of what is left, begun at r, is the whole sum, and x and y are powers of a and b. Assumes nothing.
 use Prim.Native.Nat.{_≤_, _<_, _-_}
-use mathlib.Core.Path.{_≡_, refl, ap, ap₂, _∙_}
-use mathlib.Core.Bool.{cond}
+use mathlib.Core.Path.{_≡_, refl, ap, subst, _∙_}
+use mathlib.Core.Bool.{false}
 use native.Mathlib.Omega.{arith}
 use denote.Ref.{now}
 use lib.ListN.{length, getD, drop}
-use lib.IntN.{ℤ, pos, natAbs, _-ℤ_}
-use lib.Ieee.{nan, binary64, ofInt, ofBits}
+use lib.IntN.{ℤ, pos, _-ℤ_}
+use lib.Ieee.{nan, ofInt, ofBits}
 use mir.Syntax.{w8}
-use mir.Val.{toZ, ofZ}
 use mir.Facts.{toZ-ofZ}
 use borrow.Author.Needs.{needs}
-use Rattle.arith.specs.F64.{_⊕_, _⊗_}
-use Rattle.arith.specs.Power.{raised}
-use Rattle.arith.proofs.Literals.{one-is}
+use Rattle.arith.specs.Power.{raised, powerOf}
 use Rattle.terms.specs.Sum.{rows, gone, sumFrom, sumOf}
-use Rattle.terms.specs.Carry.{turned, pastOf}
-use Rattle.terms.proofs.Carry.{held, power-of}
-use Rattle.terms.proofs.Table.{rows-within, slope-row, sum-next, sum-end}
+use Rattle.terms.proofs.RowTerms.{slope-row}
+use Rattle.terms.proofs.Table.{rows-within, sum-next, sum-end}
 use Rattle.terms.proofs.sums.slopes.Statement.{statement}
 use Rattle.terms.proofs.sums.slopes.Tie as tie
 
@@ -58,10 +54,7 @@ shared-slice-read-slope : tie.Need-shared-slice-read-slope Inv-loop μ-loop
 shared-slice-read-slope c = within (c .before .before .before .before .before) .0
 
 shared-slice-copy-out-slope : tie.Need-shared-slice-copy-out-slope Inv-loop μ-loop
-shared-slice-copy-out-slope c = within (c .before .before .before .before .before) .1
-
-shared-slice-copy-out-slope-2 : tie.Need-shared-slice-copy-out-slope-2 Inv-loop μ-loop
-shared-slice-copy-out-slope-2 c = within (c .before .before .before .before .before .before) .2
+shared-slice-copy-out-slope c = within (c .before .before .before .before .before) .2
 
 slope-requires : tie.Need-slope-requires Inv-loop μ-loop
 slope-requires c κs = search needs
@@ -74,7 +67,7 @@ loop-less c = omega arith
 
 loop-again : tie.Need-loop-again Inv-loop μ-loop
 loop-again c =
-    let ty = c .before .before .before .before in
+    let ty = c .before .before .before in
     let tx = ty .before .before in
     let l = tx .before .before .before in
     let s = l .before .before .before in
@@ -84,17 +77,16 @@ loop-again c =
     let k = l .loop .k in
     let a = s .args .a in
     let b = s .args .b in
-    let r = l .loop .r in
     let more : k < length (rows n i j) = omega (arith, l .before .count .ensures) in
-    let u : toZ w8 (ofZ w8 (getD i k (pos 0))) ≡ getD i k (pos 0) = toZ-ofZ {w = w8} (record { sfits = tx .before .toward-arg .given }) in
-    let v : toZ w8 (ofZ w8 (getD j k (pos 0))) ≡ getD j k (pos 0) = toZ-ofZ {w = w8} (record { sfits = ty .before .past-arg .given }) in (
+    let u = toZ-ofZ {w = w8} (record { sfits = tx .before .toward-arg .given }) in
+    let v = toZ-ofZ {w = w8} (record { sfits = ty .before .past-arg .given }) in (
       omega arith,
-      sum-next 0 1 a b r n i j k more
-          (c .slope .ensures ∙ ap₂ (λ (y z : ℤ). cond (gone z 1) r (r ⊕ (((getD n k nan ⊗ ofInt binary64 z) ⊗ turned y (tx .toward .result .p)) ⊗ turned (z -ℤ pos 1) (ty .past .result .p)))) u v
-          ∙ slope-row a b r (getD n k nan) (getD i k (pos 0)) (getD j k (pos 0)) (l .loop .y .k) (power-of a (tx .toward .ensures) (ap natAbs u)) (power-of b (ty .past .ensures) (ap (λ (z : ℤ). pastOf z (l .loop .y .k)) v)))
+      sum-next 0 1 a b (l .loop .r) n i j k more
+          (c .slope .ensures
+          ∙ slope-row a b (l .loop .r) (getD n k nan) (getD i k (pos 0)) (getD j k (pos 0)) v (tx .toward .ensures .1 ∙ ap (powerOf a) u) (subst (λ (z : ℤ). gone z 1 ≡ false → ty .past .result .v ≡ powerOf b (z -ℤ pos 1)) v (ty .past .ensures .1)))
           (l .loop .inv .1),
-      held a _ (tx .toward .ensures),
-      held b _ (ty .past .ensures),
+      tx .toward .ensures .0,
+      ty .past .ensures .0,
     )
 
 returns : tie.Need-returns Inv-loop μ-loop
@@ -118,7 +110,6 @@ slopes-spec =
     mul-slope
     shared-slice-read-slope
     shared-slice-copy-out-slope
-    shared-slice-copy-out-slope-2
     slope-requires
     add-k
     loop-less

@@ -1,5 +1,4 @@
 -- `terms::sums::sum` meets its contract: each walk gives the sum of the orders it is chosen for. Assumes nothing.
-use mathlib.Core.Path.{_≡_}
 use borrow.Author.Needs.{needs}
 use Rattle.terms.proofs.sums.sum.Statement.{statement}
 use Rattle.terms.proofs.sums.sum.Tie as tie

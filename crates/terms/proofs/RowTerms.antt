@@ -1,21 +1,14 @@
--- A row's terms in the six sums, from its powers: what is added where no factor is 0, and nothing where one is. Assumes nothing.
+-- A row's terms in a sum and its derivatives, from its powers: what is added where no factor is 0, and nothing where one is. Assumes nothing.
 -- The code reads an exponent e through its bits, which the laws know as a z with z ≡ e.
-use mathlib.Core.Path.{_≡_, refl, ap, ap₂, _∙_}
+use mathlib.Core.Path.{_≡_, refl, sym, ap, ap₂, _∙_}
 use mathlib.Core.Bool.{Bool, true, false, cond, _||_}
-use mathlib.Core.List.{List}
-use Prim.Native.Nat.{ℕ, _<_, _+_}
-use native.Mathlib.Numerals.{add-one}
-use lib.ListN.{length, getD, drop}
-use lib.Seq.{drop-length}
+use Prim.Native.Nat.{ℕ}
 use lib.IntN.{ℤ, pos, _-ℤ_}
-use lib.Ieee.{Float, nan, binary64, ofInt}
+use lib.Ieee.{Float, binary64, ofInt}
 use Rattle.arith.specs.F64.{_⊕_, _⊗_}
 use Rattle.arith.specs.Power.{powerOf}
-use Rattle.terms.specs.Sum.{Term, row, rows, scaled, gone, term, plus, sumFrom}
-use Rattle.terms.specs.Six.{plusSix}
-use Rattle.terms.specs.declared.Six.{Six}
-use Rattle.terms.proofs.Exponents.{gone-none}
-use Rattle.terms.proofs.Table.{rows-next}
+use Rattle.terms.specs.Sum.{row, scaled, gone, term, plus}
+use Rattle.terms.proofs.Exponents.{lowered-none, gone-none}
 
 -- ---- no factor is 0, or one is
 pub added : (da db : ℕ) (a b r n : Float) (i j : ℤ) {f x y : Float} → gone i da ≡ false → gone j db ≡ false → f ≡ scaled (scaled n i da) j db
@@ -39,11 +32,22 @@ pub gone-at : (e : ℤ) → e ≡ pos 0 → (gone e 1 ≡ true) × (gone e 2 ≡
 unfolding gone
 gone-at e h = rw h (refl, refl)
 
+-- left out by a test
+guarded : (t : Bool) {r u v : Float} → (t ≡ false → u ≡ v) → (t ≡ true → r ≡ v) → cond t r u ≡ v
+guarded true h k = k refl
+guarded false h k = h refl
+
 -- ---- the sum itself
 pub zeroth : (a b r n : Float) (i j : ℤ) {x y : Float} → x ≡ powerOf a (i -ℤ pos 0) → y ≡ powerOf b (j -ℤ pos 0)
     → r ⊕ ((n ⊗ x) ⊗ y) ≡ plus 0 0 a b r (row i j n)
 unfolding scaled
 zeroth a b r n i j p q = added 0 0 a b r n i j (gone-none i) (gone-none j) refl p q
+
+plain : (x : Float) (e : ℤ) → powerOf x e ≡ powerOf x (e -ℤ pos 0)
+plain x e = sym (ap (powerOf x) (lowered-none e))
+
+pub value-row : (a b r n : Float) (i j : ℤ) {x y : Float} → x ≡ powerOf a i → y ≡ powerOf b j → r ⊕ ((n ⊗ x) ⊗ y) ≡ plus 0 0 a b r (row i j n)
+value-row a b r n i j p q = zeroth a b r n i j (p ∙ plain a i) (q ∙ plain b j)
 
 -- ---- the first derivatives
 pub first-a : (a b r n : Float) (i j : ℤ) {z : ℤ} {x y : Float} → z ≡ i → gone i 1 ≡ false → x ≡ powerOf a (i -ℤ pos 1) → y ≡ powerOf b (j -ℤ pos 0)
@@ -56,11 +60,13 @@ pub first-b : (a b r n : Float) (i j : ℤ) {z : ℤ} {x y : Float} → z ≡ j 
 unfolding scaled
 first-b a b r n i j e g p q = added 0 1 a b r n i j (gone-none i) g (ap (λ (z : ℤ). n ⊗ ofInt binary64 z) e) p q
 
--- ---- the second derivatives
-guarded : (t : Bool) {r u v : Float} → (t ≡ false → u ≡ v) → (t ≡ true → r ≡ v) → cond t r u ≡ v
-guarded true h k = k refl
-guarded false h k = h refl
+pub slope-row : (a b r n : Float) (i j : ℤ) {z : ℤ} {x y : Float} → z ≡ j → x ≡ powerOf a i → (gone j 1 ≡ false → y ≡ powerOf b (j -ℤ pos 1))
+    → cond (gone z 1) r (r ⊕ ((n ⊗ ofInt binary64 z ⊗ x) ⊗ y)) ≡ plus 0 1 a b r (row i j n)
+slope-row a b r n i j {x} {y} e p q =
+    ap (λ (z : ℤ). cond (gone z 1) r (r ⊕ ((n ⊗ ofInt binary64 z ⊗ x) ⊗ y))) e
+    ∙ guarded (gone j 1) (λ g. first-b a b r n i j refl g (p ∙ plain a i) (q g)) (λ g. out-by-b 0 1 a b r n i j g)
 
+-- ---- the second derivatives
 pub second-a : (a b r n : Float) (i j : ℤ) {z : ℤ} {x y : Float} → z ≡ i → (gone i 2 ≡ false → x ≡ powerOf a (i -ℤ pos 2)) → y ≡ powerOf b (j -ℤ pos 0)
     → cond (gone z 2) r (r ⊕ ((n ⊗ ofInt binary64 z ⊗ ofInt binary64 (z -ℤ pos 1) ⊗ x) ⊗ y)) ≡ plus 2 0 a b r (row i j n)
 unfolding scaled
@@ -79,25 +85,3 @@ pub mixed : (a b r n : Float) (i j : ℤ) {z w : ℤ} {x y : Float} → z ≡ i 
     → x ≡ powerOf a (i -ℤ pos 1) → y ≡ powerOf b (j -ℤ pos 1) → r ⊕ ((n ⊗ ofInt binary64 z ⊗ ofInt binary64 w ⊗ x) ⊗ y) ≡ plus 1 1 a b r (row i j n)
 unfolding scaled
 mixed a b r n i j e f g h p q = added 1 1 a b r n i j g h (ap₂ (λ (z w : ℤ). n ⊗ ofInt binary64 z ⊗ ofInt binary64 w) e f) p q
-
--- ---- the walk: what s becomes over the rows ts, before and after a row
-abbrev pub sixFrom : Float → Float → Six → List Term → Six
-sixFrom a b s ts =
-    record {
-      f = sumFrom 0 0 a b (s .f) ts;
-      fa = sumFrom 1 0 a b (s .fa) ts;
-      faa = sumFrom 2 0 a b (s .faa) ts;
-      fb = sumFrom 0 1 a b (s .fb) ts;
-      fbb = sumFrom 0 2 a b (s .fbb) ts;
-      fab = sumFrom 1 1 a b (s .fab) ts;
-    }
-
-pub six-next : (a b : Float) (s : Six) {q w : Six} (n : List Float) (i j : List ℤ) (k : ℕ) → k < length (rows n i j)
-    → q ≡ plusSix a b s (row (getD i k (pos 0)) (getD j k (pos 0)) (getD n k nan))
-    → sixFrom a b s (drop k (rows n i j)) ≡ w → sixFrom a b q (drop (k + 1) (rows n i j)) ≡ w
-unfolding sumFrom plusSix
-six-next a b s n i j k h e p = rw (add-one, e) (rw (rows-next n i j k h) at p)
-
-pub six-end : (a b : Float) (s : Six) {w : Six} (ts : List Term) (k : ℕ) → k ≡ length ts → sixFrom a b s (drop k ts) ≡ w → s ≡ w
-unfolding sumFrom
-six-end a b s ts k h p = rw (h, drop-length) at p
