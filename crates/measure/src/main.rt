@@ -4,10 +4,46 @@
 use basic::Region1;
 use basic::Region2;
 use basic::State;
+use sums::Answer;
+use sums::Derivative;
 
 // Every property of a state, so that none is left unworked.
 fn sum_of(a: State) -> f64 {
     a.v + a.u + a.h + a.s + a.cp + a.w
+}
+
+// Every property of an answer, and its number if it is refused.
+fn answered(a: Answer) -> f64 {
+    match a {
+        Answer::Single(b) => {
+            let state = b.state;
+            b.t + sum_of(state)
+        }
+        Answer::Wet(b) => b.t + b.v + b.u + b.h + b.s + b.x,
+        Answer::Refused(_) => -1.0,
+    }
+}
+
+fn derived(d: Derivative) -> f64 {
+    match d {
+        Derivative::Value(v) => v,
+        Derivative::Refused(_) => -1.0,
+    }
+}
+
+// The value of one query at x.
+fn queried(operation: u8, x: f64) -> f64 {
+    match operation {
+        b'A' => answered(sums::from_pt(x, 300.0 + 10.0 * x)),
+        b'B' => answered(sums::from_pt(x, 700.0 + 10.0 * x)),
+        b'C' => answered(sums::from_ph(x, 100.0 + 10.0 * x)),
+        b'D' => answered(sums::from_ph(x, 3300.0 + 10.0 * x)),
+        b'E' => answered(sums::from_ph(x, 2000.0 + 10.0 * x)),
+        b'F' => answered(sums::from_hs(100.0 + 10.0 * x, 0.3)),
+        b'G' => derived(sums::quotient(1, x, 300.0 + 10.0 * x, 3, 2, 1)),
+        b'H' => derived(sums::quotient(2, x, 100.0 + 10.0 * x, 3, 2, 1)),
+        _ => x,
+    }
 }
 
 // The value of one operation at x, which runs from 0.04 to 8.
@@ -22,7 +58,10 @@ fn worked(operation: u8, x: f64) -> f64 {
         b'h' => Region1::h(x, 300.0 + 10.0 * x),
         b'a' => basic::ps(300.0 + 20.0 * x),
         b't' => basic::ts(x),
-        _ => x,
+        b'b' => backward::t1_ph(x, 100.0 + 10.0 * x),
+        b'c' => backward::t2_ps(0.1 * x, 7.5),
+        b'd' => backward::p1_hs(100.0 + 10.0 * x, 0.3),
+        _ => queried(operation, x),
     }
 }
 

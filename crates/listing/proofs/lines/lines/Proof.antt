@@ -1,0 +1,73 @@
+-- `listing::lines::lines` meets its contract. The invariant: the lines of the first k rows are written. The measure is how many are left.
+-- Assumes nothing.
+use Prim.Native.Nat.{_+_, _-_, _≤_}
+use mathlib.Core.Path.{ap}
+use native.Mathlib.Omega.{arith}
+use Rattle.text.specs.Room.{Written}
+use Rattle.text.proofs.Pieces.{said, kept}
+use Rattle.listing.specs.Lines.{joined}
+use Rattle.listing.specs.Listings.{rowLine, lineAt}
+use Rattle.listing.proofs.Joined.{begun, turned, ended}
+use Rattle.listing.proofs.lines.lines.Statement.{statement}
+use Rattle.listing.proofs.lines.lines.Tie as tie
+use Rattle.listing.proofs.lines.lines.Reads as reads
+use Rattle.listing.proofs.lines.lines.Lts as lts
+use Rattle.listing.proofs.lines.line.Reads as line-reads
+use Rattle.sheet.proofs.row.Reads as row-reads
+
+abbrev Inv-loop : tie.InvT-loop
+Inv-loop listing sheet start n out₀ at p₀ k₀ out p k = (k ≤ n) × Written out₀ at (joined (lineAt listing sheet start) k) out p
+
+abbrev μ-loop : tie.MeasureT-loop
+μ-loop listing sheet start n out₀ at p₀ k₀ out p k = n - k
+
+loop-holds : tie.Need-loop-holds Inv-loop μ-loop
+loop-holds c = (omega arith, begun _ _ _)
+
+add-line : tie.Need-add-line Inv-loop μ-loop
+add-line c = omega arith
+
+row-requires : tie.Need-row-requires Inv-loop μ-loop
+row-requires c κs = tt
+
+line-requires : tie.Need-line-requires Inv-loop μ-loop
+line-requires c κs = tt
+
+add-k : tie.Need-add-k Inv-loop μ-loop
+add-k c = omega arith
+
+loop-less : tie.Need-loop-less Inv-loop μ-loop
+loop-less c = omega arith
+
+loop-again : tie.Need-loop-again Inv-loop μ-loop
+loop-again c =
+    let line = c .before .before in
+    let row = line .before .before in
+    let l = row .before .before in
+    let a = l .before .before .before .args in
+    let k = l .loop .k in (
+      omega arith,
+      turned (lineAt (a .listing) (a .sheet .now) (a .start)) k (l .loop .inv .1) (said (ap (rowLine (a .listing) (k + 1)) (row .row .ensures)) (line .line .ensures)),
+    )
+
+same-length : tie.Need-same-length Inv-loop μ-loop
+same-length c = kept (c .before .loop .inv .1)
+
+returns : tie.Need-returns Inv-loop μ-loop
+returns c = let l = c .before .loop in ended _ (l .inv .0) (c .loop-test .left) (l .inv .1)
+
+pub lines-spec : {M : Type 1} → statement M
+lines-spec =
+    tie.close
+    (tie.spec
+    Inv-loop
+    μ-loop
+    loop-holds
+    add-line
+    row-requires
+    line-requires
+    add-k
+    loop-less
+    loop-again
+    same-length
+    returns)

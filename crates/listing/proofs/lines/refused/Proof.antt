@@ -1,0 +1,33 @@
+-- `listing::lines::refused` meets its contract: a word and a number, one behind the other. Assumes nothing.
+use Rattle.text.proofs.Pieces.{then}
+use Rattle.listing.specs.Lines.{refusedLine}
+use borrow.Author.Needs.{needs}
+use Rattle.listing.proofs.lines.refused.Statement.{statement}
+use Rattle.listing.proofs.lines.refused.Tie as tie
+use Rattle.listing.proofs.lines.refused.Reads as reads
+use Rattle.listing.proofs.lines.refused.Lts as lts
+use Rattle.text.proofs.bytes.Reads as bytes-reads
+use Rattle.text.proofs.decimal.Reads as decimal-reads
+
+slice-aggregate-bytes : tie.Need-slice-aggregate-bytes
+slice-aggregate-bytes c = search needs
+
+bytes-requires : tie.Need-bytes-requires
+bytes-requires c κs = search needs
+
+decimal-requires : tie.Need-decimal-requires
+decimal-requires c κs = search needs
+
+same-length : tie.Need-same-length
+same-length c = search needs
+
+returns : tie.Need-returns
+unfolding refusedLine
+returns c =
+    let last = c .before .before in
+    let first = last .before .before .before .before in
+    then (first .bytes .ensures) (last .decimal .ensures)
+
+pub refused-spec : {M : Type 1} → statement M
+refused-spec =
+    tie.close (tie.spec slice-aggregate-bytes bytes-requires decimal-requires same-length returns)

@@ -1,0 +1,77 @@
+-- `listing::listings::listed` meets its contract: the refusal's line, or header and lines one behind the other. Assumes nothing.
+use mathlib.Core.Path.{_≡_, sym, ap}
+use Rattle.text.proofs.Pieces.{then, said}
+use Rattle.sheet.specs.declared.reader.Reading.the-variants.{Rows, Refused}
+use Rattle.listing.specs.Listings.{openedOf, listedOf}
+use borrow.Author.Needs.{needs}
+use Rattle.listing.proofs.listings.listed.Statement.{statement}
+use Rattle.listing.proofs.listings.listed.Tie as tie
+use Rattle.listing.proofs.listings.listed.Reads as reads
+use Rattle.listing.proofs.listings.listed.Lts as lts
+use Rattle.listing.proofs.lines.header.Reads as header-reads
+use Rattle.listing.proofs.lines.lines.Reads as lines-reads
+use Rattle.listing.proofs.lines.refused.Reads as refused-reads
+use Rattle.listing.proofs.opening.opened.Reads as opened-reads
+
+-- what was read, in each arm
+refusal : (c : tie.After-known-told) → openedOf (c .before .before .before .before .before .before .args .sheet .now) ≡ Refused (c .before .r .given .0 .0)
+refusal c = cc
+
+rows : (c : tie.After-known-told2) → openedOf (c .before .before .before .before .before .before .args .sheet .now) ≡ Rows (c .before .r2 .given .0 .0) (c .before .r2 .given .0 .1 .0)
+rows c = cc
+
+opened-requires : tie.Need-opened-requires
+opened-requires c κs = search needs
+
+enum-known-r : tie.Need-enum-known-r
+enum-known-r c = search needs
+
+refused-requires : tie.Need-refused-requires
+refused-requires c κs = search needs
+
+enum-known-r-2 : tie.Need-enum-known-r-2
+enum-known-r-2 c = search needs
+
+header-requires : tie.Need-header-requires
+header-requires c κs = search needs
+
+lines-requires : tie.Need-lines-requires
+lines-requires c κs = search needs
+
+same-length : tie.Need-same-length
+same-length c = search needs
+
+returns : tie.Need-returns
+unfolding listedOf
+returns c =
+    let refused = c .before .before in
+    let told = refused .before .before in
+    let a = told .before .before .before .before .before .before .args in
+    said (ap (listedOf (a .listing) (a .sheet .now)) (sym (refusal told))) (refused .refused .ensures)
+
+same-length-2 : tie.Need-same-length-2
+same-length-2 c = search needs
+
+returns-2 : tie.Need-returns-2
+unfolding listedOf
+returns-2 c =
+    let lines = c .before .before in
+    let header = lines .before .before .before .before in
+    let told = header .before .before in
+    let a = told .before .before .before .before .before .before .args in
+    said (ap (listedOf (a .listing) (a .sheet .now)) (sym (rows told))) (then (header .header .ensures) (lines .lines .ensures))
+
+pub listed-spec : {M : Type 1} → statement M
+listed-spec =
+    tie.close
+    (tie.spec
+    opened-requires
+    enum-known-r
+    refused-requires
+    enum-known-r-2
+    header-requires
+    lines-requires
+    same-length
+    returns
+    same-length-2
+    returns-2)

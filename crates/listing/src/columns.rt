@@ -1,0 +1,102 @@
+// The columns that lines are made of (specs/Lines.antt).
+use sheet::Point;
+use sums::Answer;
+use sums::Derivative;
+use sums::Value;
+use text::Cell;
+ghost use mathlib.Core.Path.{_≡_};
+ghost use Rattle.text.specs.Room.{Written};
+ghost use Rattle.sums.specs.Answers.{valuesOf};
+ghost use Rattle.listing.specs.Lines.{askedOf, verdictOf, digitOf, markByte, cellOf, valueColumns, refusalOf, quotientCell};
+
+// The query of a row.
+pub(crate) fn asked(row: Point) -> Answer
+    ensures { λ r. ⌜ r ≡ askedOf row ⌝ }
+{
+    sums::query(
+        row.kind,
+        arith::float_of(row.first),
+        arith::float_of(row.second),
+    )
+}
+
+// Writes a row's number, its kind, the refusal and the region, and the byte that ends them.
+pub(crate) fn verdict(
+    number: u64,
+    kind: u64,
+    a: Answer,
+    end: u8,
+    out: &mut [u8],
+    at: usize,
+) -> usize
+    ensures { λ r. ⌜ Written (now (out .entry)) at (verdictOf number kind a end) (now (out .exit)) r ⌝ }
+{
+    let at = text::decimal(number, b' ', out, at);
+    let at = text::decimal(kind, b' ', out, at);
+    let at = text::decimal(sums::number(a), b' ', out, at);
+    text::decimal(sums::region(a), end, out, at)
+}
+
+// A mark as a digit.
+fn digit(mark: bool) -> u8
+    ensures { λ r. ⌜ r ≡ digitOf mark ⌝ }
+{
+    if mark { b'1' } else { b'0' }
+}
+
+// The mark of an answer: 1 verified, 0 not, and `-` for a refusal.
+pub(crate) fn mark(a: Answer) -> u8
+    ensures { λ r. ⌜ r ≡ markByte a ⌝ }
+{
+    match a {
+        Answer::Single(s) => digit(s.verified),
+        Answer::Wet(w) => digit(w.verified),
+        Answer::Refused(_) => b'-',
+    }
+}
+
+// A value as a column.
+fn cell(v: Value) -> Cell
+    ensures { λ r. ⌜ r ≡ cellOf v ⌝ }
+{
+    match v {
+        Value::Is(x) => Cell::Value(x),
+        Value::Missing => Cell::Empty,
+    }
+}
+
+// Writes the nine values of an answer, which end its line.
+pub(crate) fn values(a: Answer, out: &mut [u8], at: usize) -> usize
+    ensures { λ r. ⌜ Written (now (out .entry)) at (valueColumns (valuesOf a)) (now (out .exit)) r ⌝ }
+{
+    let values = sums::values(a);
+    let mut p = at;
+    let mut k = 0;
+    while k < 8 {
+        let v = values[k];
+        p = text::column(cell(v), b' ', out, p);
+        k += 1;
+    }
+    let x = values[8];
+    text::column(cell(x), b'\n', out, p)
+}
+
+// The refusal of a derivative, 0 if there is none.
+pub(crate) fn refusal(q: Derivative) -> u64
+    ensures { λ r. ⌜ r ≡ refusalOf q ⌝ }
+{
+    match q {
+        Derivative::Value(_) => 0,
+        Derivative::Refused(n) => n,
+    }
+}
+
+// A derivative as a column.
+pub(crate) fn quotient_cell(q: Derivative) -> Cell
+    ensures { λ r. ⌜ r ≡ quotientCell q ⌝ }
+{
+    match q {
+        Derivative::Value(x) => Cell::Value(x),
+        Derivative::Refused(_) => Cell::Empty,
+    }
+}
