@@ -4,7 +4,7 @@
 fn main() {
     let mut input = [0u8; 28113];
     let n = io::read_full(0, &mut input);
-    let mut text = [0u8; 262144];
+    let mut text = [0u8; 600000];
     let end = listing::answers(&input[..n], &mut text);
     io::write_all(1, &text[..end]);
 }

@@ -4,6 +4,9 @@
 use basic::Region1;
 use basic::Region2;
 use basic::State;
+use desk::Answer as Answered;
+use desk::Desk;
+use desk::Outcome;
 use sums::Answer;
 use sums::Derivative;
 
@@ -78,13 +81,81 @@ fn run(operation: u8, n: usize) -> f64 {
     sum
 }
 
+// Four jobs of each caller in region 1, so that every row is filled.
+fn full_desk() -> Desk {
+    let mut d = desk::new_desk();
+    let mut k = 0u64;
+    while k < 32 {
+        let o = desk::post(d, k / 4, 2, 1.0, 500.0);
+        let e = o.desk;
+        d = e;
+        k += 1;
+    }
+    d
+}
+
+// One call on a full desk.
+fn called(operation: u8, d: Desk) -> Outcome {
+    match operation {
+        b'T' => desk::turn(d),
+        b'P' => desk::peek(d, 7, 3),
+        b'W' => desk::withdraw(d, 7, 4),
+        _ => desk::peek(d, 8, 0),
+    }
+}
+
+// The upper end of the first job's bracket, so that no halving is left unworked.
+fn shown(d: Desk) -> f64 {
+    let o = desk::peek(d, 0, 0);
+    let a = o.answer;
+    match a {
+        Answered::Shown {
+            halvings: _,
+            lo: _,
+            hi,
+        } => hi,
+        _ => 0.0,
+    }
+}
+
+// n of them, one behind the other; U on a desk whose pointer is out of range, where nothing else is
+// tested.
+fn run_desk(operation: u8, n: usize) -> f64 {
+    let mut d = full_desk();
+    if operation == b'U' {
+        d.pointer = 32;
+    }
+    let mut k = 0usize;
+    while k < n {
+        let o = called(operation, d);
+        let e = o.desk;
+        d = e;
+        k += 1;
+    }
+    shown(d)
+}
+
+fn is_desk(operation: u8) -> bool {
+    operation == b'T'
+        || operation == b'P'
+        || operation == b'W'
+        || operation == b'S'
+        || operation == b'U'
+}
+
 fn main() {
     let mut buffer = [0u8; 1024];
     let got = io::read_full(0, &mut buffer);
     if got == 0 {
         return;
     }
-    if run(buffer[0], got - 1) < 0.0 {
+    let operation = buffer[0];
+    let value = if is_desk(operation) {
+        run_desk(operation, got - 1)
+    } else {
+        run(operation, got - 1)
+    };
+    if value < 0.0 {
         io::write_all(1, b"below zero\n");
     } else {
         io::write_all(1, b"done\n");

@@ -6,10 +6,6 @@ use Rattle.sums.specs.Queries.{answerOf}
 use borrow.Author.Needs.{needs}
 use Rattle.listing.proofs.columns.asked.Statement.{statement}
 use Rattle.listing.proofs.columns.asked.Tie as tie
-use Rattle.listing.proofs.columns.asked.Reads as reads
-use Rattle.listing.proofs.columns.asked.Lts as lts
-use Rattle.arith.proofs.float_of.Reads as float-of-reads
-use Rattle.sums.proofs.query.Reads as query-reads
 
 float-of-requires : tie.Need-float-of-requires
 float-of-requires c κs = search needs

@@ -2,8 +2,6 @@
 use borrow.Author.Needs.{needs}
 use Rattle.listing.proofs.columns.cell.Statement.{statement}
 use Rattle.listing.proofs.columns.cell.Tie as tie
-use Rattle.listing.proofs.columns.cell.Reads as reads
-use Rattle.listing.proofs.columns.cell.Lts as lts
 
 enum-known-v : tie.Need-enum-known-v
 enum-known-v c = search needs

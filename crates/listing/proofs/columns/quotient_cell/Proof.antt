@@ -2,8 +2,6 @@
 use borrow.Author.Needs.{needs}
 use Rattle.listing.proofs.columns.quotient_cell.Statement.{statement}
 use Rattle.listing.proofs.columns.quotient_cell.Tie as tie
-use Rattle.listing.proofs.columns.quotient_cell.Reads as reads
-use Rattle.listing.proofs.columns.quotient_cell.Lts as lts
 
 enum-known-q : tie.Need-enum-known-q
 enum-known-q c = search needs

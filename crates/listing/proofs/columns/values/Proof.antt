@@ -16,11 +16,6 @@ use Rattle.listing.specs.Lines.{joined, blank, newline, valueColumn, val
 use Rattle.listing.proofs.Joined.{begun, turned, ended}
 use Rattle.listing.proofs.columns.values.Statement.{statement}
 use Rattle.listing.proofs.columns.values.Tie as tie
-use Rattle.listing.proofs.columns.values.Reads as reads
-use Rattle.listing.proofs.columns.values.Lts as lts
-use Rattle.listing.proofs.columns.cell.Reads as cell-reads
-use Rattle.sums.proofs.values.Reads as values-reads
-use Rattle.text.proofs.column.Reads as column-reads
 
 -- the column of a value that is read
 written : (end : ℕ) (x : Cell) (u v : Value) → x ≡ cellOf u → u ≡ v → columnOf x ++ end ∷ [] ≡ columnOf (cellOf v) ++ end ∷ []

@@ -6,11 +6,6 @@ use Rattle.listing.specs.Lines.{blank, numberColumn, verdictOf}
 use borrow.Author.Needs.{needs}
 use Rattle.listing.proofs.columns.verdict.Statement.{statement}
 use Rattle.listing.proofs.columns.verdict.Tie as tie
-use Rattle.listing.proofs.columns.verdict.Reads as reads
-use Rattle.listing.proofs.columns.verdict.Lts as lts
-use Rattle.sums.proofs.number.Reads as number-reads
-use Rattle.sums.proofs.region.Reads as region-reads
-use Rattle.text.proofs.decimal.Reads as decimal-reads
 
 decimal-requires : tie.Need-decimal-requires
 decimal-requires c κs = search needs

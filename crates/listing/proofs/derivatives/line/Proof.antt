@@ -12,14 +12,6 @@ use Rattle.listing.specs.Lines.{blank, newline, numberColumn, refusalOf,
 use borrow.Author.Needs.{needs}
 use Rattle.listing.proofs.derivatives.line.Statement.{statement}
 use Rattle.listing.proofs.derivatives.line.Tie as tie
-use Rattle.listing.proofs.derivatives.line.Reads as reads
-use Rattle.listing.proofs.derivatives.line.Lts as lts
-use Rattle.arith.proofs.float_of.Reads as float-of-reads
-use Rattle.listing.proofs.columns.quotient_cell.Reads as quotient-cell-reads
-use Rattle.listing.proofs.columns.refusal.Reads as refusal-reads
-use Rattle.sums.proofs.quotient.Reads as quotient-reads
-use Rattle.text.proofs.column.Reads as column-reads
-use Rattle.text.proofs.decimal.Reads as decimal-reads
 
 -- the line of a derivative
 abbrev columns : ℕ → ℕ → ℕ → ℕ → Derivative → List ℕ

@@ -10,10 +10,6 @@ use Rattle.listing.specs.Lines.{joined, quotientLine, tripleLine, quotie
 use Rattle.listing.proofs.Joined.{begun, turned, ended}
 use Rattle.listing.proofs.derivatives.lines.Statement.{statement}
 use Rattle.listing.proofs.derivatives.lines.Tie as tie
-use Rattle.listing.proofs.derivatives.lines.Reads as reads
-use Rattle.listing.proofs.derivatives.lines.Lts as lts
-use Rattle.listing.proofs.derivatives.line.Reads as line-reads
-use Rattle.listing.proofs.derivatives.wide.Reads as wide-reads
 
 abbrev Inv-loop : tie.InvT-loop
 Inv-loop number row note out₀ n p₀ k₀ out p k = (k ≤ n) × Written out₀ 0 (joined (tripleLine number row note) k) out p

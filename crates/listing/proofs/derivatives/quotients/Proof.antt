@@ -17,11 +17,6 @@ use Rattle.listing.specs.Listings.{quotientsRow}
 use borrow.Author.Needs.{needs}
 use Rattle.listing.proofs.derivatives.quotients.Statement.{statement}
 use Rattle.listing.proofs.derivatives.quotients.Tie as tie
-use Rattle.listing.proofs.derivatives.quotients.Reads as reads
-use Rattle.listing.proofs.derivatives.quotients.Lts as lts
-use Rattle.listing.proofs.derivatives.lines.Reads as lines-reads
-use Rattle.listing.proofs.opening.note.Reads as note-reads
-use Rattle.sheet.proofs.row.Reads as row-reads
 
 -- what was read, in each arm
 refusal : (c : tie.After-enum-told) → c .before .before .before .before .args .reading ≡ Refused (c .enum-told .given .0 .0)

@@ -6,10 +6,6 @@ use Rattle.listing.specs.Listings.{quotientsHead}
 use borrow.Author.Needs.{needs}
 use Rattle.listing.proofs.derivatives.quotients_head.Statement.{statement}
 use Rattle.listing.proofs.derivatives.quotients_head.Tie as tie
-use Rattle.listing.proofs.derivatives.quotients_head.Reads as reads
-use Rattle.listing.proofs.derivatives.quotients_head.Lts as lts
-use Rattle.listing.proofs.lines.refused.Reads as refused-reads
-use Rattle.text.proofs.bytes.Reads as bytes-reads
 
 -- what was read, in each arm
 refusal : (c : tie.After-known-told) → c .before .before .before .before .args .reading ≡ Refused (c .before .reading .given .0 .0)

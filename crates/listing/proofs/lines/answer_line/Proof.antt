@@ -9,13 +9,6 @@ use Rattle.listing.specs.Lines.{blank, verdictOf, markByte, valueColumns
 use borrow.Author.Needs.{needs}
 use Rattle.listing.proofs.lines.answer_line.Statement.{statement}
 use Rattle.listing.proofs.lines.answer_line.Tie as tie
-use Rattle.listing.proofs.lines.answer_line.Reads as reads
-use Rattle.listing.proofs.lines.answer_line.Lts as lts
-use Rattle.listing.proofs.columns.asked.Reads as asked-reads
-use Rattle.listing.proofs.columns.mark.Reads as mark-reads
-use Rattle.listing.proofs.columns.values.Reads as values-reads
-use Rattle.listing.proofs.columns.verdict.Reads as verdict-reads
-use Rattle.text.proofs.bytes.Reads as bytes-reads
 
 asked-requires : tie.Need-asked-requires
 asked-requires c κs = search needs

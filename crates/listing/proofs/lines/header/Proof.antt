@@ -6,9 +6,6 @@ use Rattle.listing.specs.declared.Listing.the-variants.{Regions, Answers
 use borrow.Author.Needs.{needs}
 use Rattle.listing.proofs.lines.header.Statement.{statement}
 use Rattle.listing.proofs.lines.header.Tie as tie
-use Rattle.listing.proofs.lines.header.Reads as reads
-use Rattle.listing.proofs.lines.header.Lts as lts
-use Rattle.text.proofs.bytes.Reads as bytes-reads
 
 -- which listing it is, in each arm
 of-regions : (c : tie.After-enum-told) → c .before .before .before .args .listing ≡ Regions

@@ -7,10 +7,6 @@ use Rattle.listing.specs.declared.Listing.the-variants.{Regions, Answers
 use borrow.Author.Needs.{needs}
 use Rattle.listing.proofs.lines.line.Statement.{statement}
 use Rattle.listing.proofs.lines.line.Tie as tie
-use Rattle.listing.proofs.lines.line.Reads as reads
-use Rattle.listing.proofs.lines.line.Lts as lts
-use Rattle.listing.proofs.lines.answer_line.Reads as answer-line-reads
-use Rattle.listing.proofs.lines.region_line.Reads as region-line-reads
 
 -- which listing it is, in each arm
 of-regions : (c : tie.After-enum-told) → c .before .before .before .args .listing ≡ Regions

@@ -10,10 +10,6 @@ use Rattle.listing.specs.Listings.{rowLine, lineAt}
 use Rattle.listing.proofs.Joined.{begun, turned, ended}
 use Rattle.listing.proofs.lines.lines.Statement.{statement}
 use Rattle.listing.proofs.lines.lines.Tie as tie
-use Rattle.listing.proofs.lines.lines.Reads as reads
-use Rattle.listing.proofs.lines.lines.Lts as lts
-use Rattle.listing.proofs.lines.line.Reads as line-reads
-use Rattle.sheet.proofs.row.Reads as row-reads
 
 abbrev Inv-loop : tie.InvT-loop
 Inv-loop listing sheet start n out₀ at p₀ k₀ out p k = (k ≤ n) × Written out₀ at (joined (lineAt listing sheet start) k) out p

@@ -4,10 +4,6 @@ use Rattle.listing.specs.Lines.{refusedLine}
 use borrow.Author.Needs.{needs}
 use Rattle.listing.proofs.lines.refused.Statement.{statement}
 use Rattle.listing.proofs.lines.refused.Tie as tie
-use Rattle.listing.proofs.lines.refused.Reads as reads
-use Rattle.listing.proofs.lines.refused.Lts as lts
-use Rattle.text.proofs.bytes.Reads as bytes-reads
-use Rattle.text.proofs.decimal.Reads as decimal-reads
 
 slice-aggregate-bytes : tie.Need-slice-aggregate-bytes
 slice-aggregate-bytes c = search needs

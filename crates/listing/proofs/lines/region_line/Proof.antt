@@ -6,10 +6,6 @@ use Rattle.listing.specs.Lines.{newline, verdictOf}
 use borrow.Author.Needs.{needs}
 use Rattle.listing.proofs.lines.region_line.Statement.{statement}
 use Rattle.listing.proofs.lines.region_line.Tie as tie
-use Rattle.listing.proofs.lines.region_line.Reads as reads
-use Rattle.listing.proofs.lines.region_line.Lts as lts
-use Rattle.listing.proofs.columns.asked.Reads as asked-reads
-use Rattle.listing.proofs.columns.verdict.Reads as verdict-reads
 
 asked-requires : tie.Need-asked-requires
 asked-requires c κs = search needs

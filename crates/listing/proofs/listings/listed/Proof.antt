@@ -6,12 +6,6 @@ use Rattle.listing.specs.Listings.{openedOf, listedOf}
 use borrow.Author.Needs.{needs}
 use Rattle.listing.proofs.listings.listed.Statement.{statement}
 use Rattle.listing.proofs.listings.listed.Tie as tie
-use Rattle.listing.proofs.listings.listed.Reads as reads
-use Rattle.listing.proofs.listings.listed.Lts as lts
-use Rattle.listing.proofs.lines.header.Reads as header-reads
-use Rattle.listing.proofs.lines.lines.Reads as lines-reads
-use Rattle.listing.proofs.lines.refused.Reads as refused-reads
-use Rattle.listing.proofs.opening.opened.Reads as opened-reads
 
 -- what was read, in each arm
 refusal : (c : tie.After-known-told) → openedOf (c .before .before .before .before .before .before .args .sheet .now) ≡ Refused (c .before .r .given .0 .0)

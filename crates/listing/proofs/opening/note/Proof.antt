@@ -5,8 +5,6 @@ use lib.Seq.{length-take-le, take-all}
 use borrow.Author.Needs.{needs}
 use Rattle.listing.proofs.opening.note.Statement.{statement}
 use Rattle.listing.proofs.opening.note.Tie as tie
-use Rattle.listing.proofs.opening.note.Reads as reads
-use Rattle.listing.proofs.opening.note.Lts as lts
 
 slice-aggregate-result : tie.Need-slice-aggregate-result
 slice-aggregate-result c = sym (length-take-le _ _ (omega arith))

@@ -4,9 +4,6 @@ use Rattle.listing.specs.Listings.{openedOf}
 use borrow.Author.Needs.{needs}
 use Rattle.listing.proofs.opening.opened.Statement.{statement}
 use Rattle.listing.proofs.opening.opened.Tie as tie
-use Rattle.listing.proofs.opening.opened.Reads as reads
-use Rattle.listing.proofs.opening.opened.Lts as lts
-use Rattle.sheet.proofs.read.Reads as read-reads
 
 returns : tie.Need-returns
 unfolding openedOf

@@ -10,9 +10,6 @@ use Rattle.listing.specs.Listings.{openedOf, inTriples}
 use borrow.Author.Needs.{needs}
 use Rattle.listing.proofs.opening.triples.Statement.{statement}
 use Rattle.listing.proofs.opening.triples.Tie as tie
-use Rattle.listing.proofs.opening.triples.Reads as reads
-use Rattle.listing.proofs.opening.triples.Lts as lts
-use Rattle.listing.proofs.opening.opened.Reads as opened-reads
 
 -- what was read, in each arm
 refusal : (c : tie.After-known-told) → openedOf (c .before .before .before .before .before .args .sheet .now) ≡ Refused (c .before .r .given .0 .0)

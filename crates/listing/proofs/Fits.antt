@@ -1,0 +1,158 @@
+-- Every text fits the room that its program lends, so that none is cut: a number has at most 20 digits, a value 16, a sheet that reads at most
+-- 2,500 rows in any version, and its note at most 4,096 bytes. Assumes nothing.
+use Prim.Native.Nat.{ℕ, zero, suc, _+_, _*_, _/_, _%_, _≤_}
+use native.Mathlib.Nat.{mul-suc}
+use native.Mathlib.Omega.{arith}
+use mathlib.Core.Path.{_≡_, refl}
+use mathlib.Core.Bool.{Bool, true, false, cond}
+use mathlib.Core.List.{List, [], _∷_, _++_}
+use lib.Dec.{ltb, eqb}
+use lib.Ieee.{isNan, binary64, toBits}
+use lib.ListN.{length, take, getD, length-append, length-take}
+use Rattle.text.specs.Texts.{decimalFrom, decimalOf, hexDigit, hexFrom, hexOf, valueOf, columnOf}
+use Rattle.text.specs.declared.Cell.{Cell}
+use Rattle.text.specs.declared.Cell.the-variants as Cell
+use Rattle.arith.specs.Bits.{floatOf}
+use Rattle.sums.specs.Answers.{numberOf, regionOf, valuesOf}
+use Rattle.sums.specs.Quotients.{quotientOf}
+use Rattle.sums.specs.declared.Answer.{Answer}
+use Rattle.sums.specs.declared.Value.{Value}
+use Rattle.sums.specs.declared.Value.the-variants.{Missing}
+use Rattle.sheet.specs.declared.rows.Point.{Point}
+use Rattle.sheet.specs.Read.{readOf}
+use Rattle.sheet.specs.Rows.{rowOf}
+use Rattle.sheet.specs.declared.reader.Reading.{Reading}
+use Rattle.sheet.specs.declared.reader.Reading.the-variants.{Rows, Refused}
+use Rattle.sheet.proofs.ReadLaws.{trailer-rows, read-inv, read-fits}
+use Rattle.listing.specs.Lines.{joined, blank, newline, cellOf, askedOf, verdictOf, valueColumn, valueColumns, answerLine, refusalOf, quotientCell, quotientLine, tripleLine, quotientLines, refusedLine}
+use Rattle.listing.specs.Listings.{longest, openedOf, headerOf, rowLine, lineAt, listedOf, regionsText, answersText, inTriples, triplesOf, quotientsHead, quotientsRow}
+use Rattle.listing.specs.declared.Listing.{Listing}
+use Rattle.listing.specs.declared.Listing.the-variants.{Regions, Answers}
+
+-- ---- columns
+
+decimal-from : (k n : ℕ) → length (decimalFrom k n) ≤ k
+unfolding decimalFrom
+decimal-from zero n = omega arith
+decimal-from (suc k) n = go (ltb n 10) (decimal-from k (n / 10))
+  where
+    go : (t : Bool) → length (decimalFrom k (n / 10)) ≤ k → length (cond t ((48 + n) ∷ []) (decimalFrom k (n / 10) ++ (48 + n % 10) ∷ [])) ≤ suc k
+    go true h = omega arith
+    go false h = omega (arith, length-append (decimalFrom k (n / 10)) ((48 + n % 10) ∷ []))
+
+digits : (n : ℕ) → length (decimalOf n) ≤ 20
+unfolding decimalOf
+digits n = decimal-from 20 n
+
+hex-from : (k n : ℕ) → length (hexFrom k n) ≤ k
+unfolding hexFrom
+hex-from zero n = omega arith
+hex-from (suc k) n = omega (arith, length-append (hexFrom k (n / 16)) (hexDigit (n % 16) ∷ []), hex-from k (n / 16))
+
+column-short : (c : Cell) → length (columnOf c) ≤ 16
+unfolding columnOf valueOf hexOf
+column-short Cell.Empty = omega arith
+column-short (Cell.Value x) = go (isNan x)
+  where
+    go : (t : Bool) → length (cond t (110 ∷ 97 ∷ 110 ∷ []) (hexFrom 16 (toBits binary64 x))) ≤ 16
+    go true = omega arith
+    go false = hex-from 16 (toBits binary64 x)
+
+-- ---- lines
+
+joined-short : (text : ℕ → List ℕ) (m n : ℕ) → ((k : ℕ) → length (text k) ≤ m) → length (joined text n) ≤ m * n
+unfolding joined
+joined-short text m zero h = omega arith
+joined-short text m (suc n) h = omega (arith, length-append (joined text n) (text n), joined-short text m n h, h n, mul-suc m n)
+
+refused-short : (n : ℕ) → length (refusedLine n) ≤ 29
+unfolding refusedLine
+refused-short n = simp length-append (omega (arith, digits n))
+
+verdict-short : (number kind : ℕ) (a : Answer) (end : ℕ) → length (verdictOf number kind a end) ≤ 84
+unfolding verdictOf
+verdict-short number kind a end = simp length-append (omega (arith, digits number, digits kind, digits (numberOf a), digits (regionOf a)))
+
+value-short : (values : List Value) (end i : ℕ) → length (valueColumn values end i) ≤ 17
+value-short values end i = simp length-append (omega (arith, column-short (cellOf (getD values i Missing))))
+
+values-short : (values : List Value) → length (valueColumns values) ≤ 153
+unfolding valueColumns
+values-short values =
+    omega
+    (arith, length-append (joined (valueColumn values blank) 8) (valueColumn values newline 8), joined-short (valueColumn values blank) 17 8 (value-short values blank), value-short values newline 8)
+
+answer-short : (number : ℕ) (row : Point) → length (answerLine number row) ≤ 239
+unfolding answerLine
+answer-short number row =
+    let a = askedOf row in
+    simp length-append (omega (arith, verdict-short number (row .kind) a blank, values-short (valuesOf a)))
+
+row-short : (listing : Listing) (number : ℕ) (row : Point) → length (rowLine listing number row) ≤ 239
+unfolding rowLine
+row-short Regions number row = omega (arith, verdict-short number (row .kind) (askedOf row) newline)
+row-short Answers number row = answer-short number row
+
+quotient-short : (number : ℕ) (row : Point) (z x y : ℕ) → length (quotientLine number row z x y) ≤ 122
+unfolding quotientLine
+quotient-short number row z x y =
+    let q = quotientOf (row .kind) (floatOf (row .first)) (floatOf (row .second)) z x y in
+    simp length-append (omega (arith, digits number, digits z, digits x, digits y, digits (refusalOf q), column-short (quotientCell q)))
+
+-- ---- texts
+
+opened-few : (s : List ℕ) (count start : ℕ) → openedOf s ≡ Rows count start → (count ≤ 2500) × (start ≤ 4096)
+unfolding openedOf
+opened-few s count start e = go (ltb longest (length s)) e
+  where
+    go : (t : Bool) → cond t (Refused 23) (readOf s) ≡ Rows count start → (count ≤ 2500) × (start ≤ 4096)
+    go true h = absurd (let z : _≡_ {A = ℕ} 0 1 = cc in omega arith)
+    go false h = (read-fits s count start h .1, trailer-rows s count start (read-inv s count start h .0) .1 .1 .short-note)
+
+listed-short : (listing : Listing) (s : List ℕ) → length (listedOf listing s (openedOf s)) ≤ 600000
+unfolding listedOf headerOf
+listed-short listing s = go listing (openedOf s) refl
+  where
+    go : (l : Listing) (r : Reading) → openedOf s ≡ r → length (listedOf l s r) ≤ 600000
+    go l (Refused n) e = omega (arith, refused-short n)
+    go Regions (Rows count start) e =
+        simp length-append
+        (omega (arith, opened-few s count start e .0, joined-short (lineAt Regions s start) 239 count (λ k. row-short Regions (k + 1) (rowOf s start k))))
+    go Answers (Rows count start) e =
+        simp length-append
+        (omega (arith, opened-few s count start e .0, joined-short (lineAt Answers s start) 239 count (λ k. row-short Answers (k + 1) (rowOf s start k))))
+
+-- what `regions` and `answers` lend
+pub regions-fits : (s : List ℕ) → length (regionsText s) ≤ 600000
+regions-fits s = listed-short Regions s
+
+pub answers-fits : (s : List ℕ) → length (answersText s) ≤ 600000
+answers-fits s = listed-short Answers s
+
+-- a note is so many triples at most, and a row has a line for each
+lines-short : (number : ℕ) (row : Point) (note : List ℕ) → length note ≤ 4096 → length (quotientLines number row note) ≤ 262144
+unfolding quotientLines
+lines-short number row note h =
+    omega (arith, joined-short (tripleLine number row note) 122 (length note / 3) (λ i. quotient-short number row (getD note (3 * i) 0) (getD note (3 * i + 1) 0) (getD note (3 * i + 2) 0)))
+
+-- what `quotients` lends
+pub quotients-head-fits : (r : Reading) → length (quotientsHead r) ≤ 262144
+unfolding quotientsHead
+quotients-head-fits (Refused n) = omega (arith, refused-short n)
+quotients-head-fits (Rows count start) = omega arith
+
+pub quotients-fits : (s : List ℕ) (k : ℕ) → length (quotientsRow s (triplesOf s) k) ≤ 262144
+unfolding quotientsRow inTriples
+quotients-fits s k = go (openedOf s) refl
+  where
+    row : (count start : ℕ) (b : Bool) → start ≤ 4096 → length (quotientsRow s (cond b (Rows count start) (Refused 23)) k) ≤ 262144
+    row count start false h = omega arith
+    row count start true h = here (ltb k count)
+      where
+        here : (t : Bool) → length (cond t (quotientLines (k + 1) (rowOf s start k) (take start s)) []) ≤ 262144
+        here true = lines-short (k + 1) (rowOf s start k) (take start s) (omega (arith, length-take start s))
+        here false = omega arith
+
+    go : (r : Reading) → openedOf s ≡ r → length (quotientsRow s (inTriples r) k) ≤ 262144
+    go (Refused n) e = omega arith
+    go (Rows count start) e = row count start (eqb (start % 3) 0) (opened-few s count start e .1)
