@@ -200,7 +200,6 @@ const A28: [(Subregion, Row); 9] = [
     (C, ("80", "5.75", "0.949017998E3")),
 ];
 
-/// The row for 10 MPa is the published release's; 002's text has lost it.
 const A29: [(&str, &str); 3] =
     [("0.1", "0.372755919E3"), ("1", "0.453035632E3"), ("10", "0.584149488E3")];
 
