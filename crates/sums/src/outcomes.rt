@@ -83,18 +83,18 @@ fn single(given: Given, region: u64, p: f64, y: f64) -> Outcome
     Outcome::Single(full_marked(given, region, p, y, t))
 }
 
-// Up to P: liquid, wet or vapour. The liquid's y' is worked alone, at half the cost of its state; y''
-// is that of the vapour which a wet state is mixed from.
+// Up to P: liquid, wet or vapour, by the saturated states, which are also what a wet state is mixed
+// from.
 fn saturated(given: Given, p: f64, y: f64) -> Outcome
     ensures { λ r. ⌜ r ≡ outcomeOf (placedPY given p y (saturatedOf given p y)) ⌝ }
 {
     let t = basic::ts(p);
-    if y < property(given, 1, p, t) {
+    let liquid = Region1::state(p, t);
+    if y < given_of(given, liquid.h, liquid.s) {
         return single(given, 1, p, y);
     }
     let vapour = Region2::state(p, t);
     if y <= given_of(given, vapour.h, vapour.s) {
-        let liquid = Region1::state(p, t);
         return Outcome::Wet(mixture(given, p, y, t, liquid, vapour));
     }
     single(given, 2, p, y)

@@ -5,7 +5,7 @@ use Prim.Native.Nat.{ℕ, zero, suc, _+_, _-_, _<_, _≤_, _^_}
 use native.Mathlib.Omega.{arith}
 use borrow.Author.Tests.{ltb-true, le-leb, le-ltb}
 use lib.IntN.{ℤ, pos, negsuc, natAbs, negℤ, _+ℤ_, _-ℤ_, +ℤ-idr, +ℤ-assoc, negℤ-+ℤ}
-use lib.Signed.{mag, ltZ, leZ}
+use lib.Signed.{mag, ltZ}
 use lib.Dec.{T, ltb}
 use lib.Ieee.{Float, binary64, ofInt}
 use mir.Syntax.{w8, w16, w32}
@@ -106,12 +106,3 @@ minus-fits (negsuc a) f = record { sfits = omega (arith, f .sfits) }
 pub minus-abs : (w : ℤ) → ltZ w (pos 0) ≡ true → natAbs (pos 0 -ℤ w) ≡ natAbs w
 minus-abs (pos a) h = absurd (never a h)
 minus-abs (negsuc a) h = omega arith
-
--- ---- what a test of a w with 0 says
-pub not-below : (w : ℤ) → leZ (pos 0) w ≡ true → ltZ w (pos 0) ≡ false
-not-below (pos a) h = le-ltb a 0 (omega arith)
-not-below (negsuc a) h = absurd (flip (sym h))
-
-pub below : (w : ℤ) → leZ (pos 0) w ≡ false → ltZ w (pos 0) ≡ true
-below (pos a) h = absurd (flip (sym (le-leb 0 a (omega arith)) ∙ h))
-below (negsuc a) h = refl

@@ -60,11 +60,11 @@ pub first-b : (a b r n : Float) (i j : ℤ) {z : ℤ} {x y : Float} → z ≡ j 
 unfolding scaled
 first-b a b r n i j e g p q = added 0 1 a b r n i j (gone-none i) g (ap (λ (z : ℤ). n ⊗ ofInt binary64 z) e) p q
 
-pub slope-row : (a b r n : Float) (i j : ℤ) {z : ℤ} {x y : Float} → z ≡ j → x ≡ powerOf a i → (gone j 1 ≡ false → y ≡ powerOf b (j -ℤ pos 1))
-    → cond (gone z 1) r (r ⊕ ((n ⊗ ofInt binary64 z ⊗ x) ⊗ y)) ≡ plus 0 1 a b r (row i j n)
-slope-row a b r n i j {x} {y} e p q =
-    ap (λ (z : ℤ). cond (gone z 1) r (r ⊕ ((n ⊗ ofInt binary64 z ⊗ x) ⊗ y))) e
-    ∙ guarded (gone j 1) (λ g. first-b a b r n i j refl g (p ∙ plain a i) (q g)) (λ g. out-by-b 0 1 a b r n i j g)
+pub slope-row : (a b r n : Float) (i j : ℤ) {z : ℤ} {x : Float} → z ≡ j → x ≡ powerOf a i
+    → cond (gone z 1) r (r ⊕ ((n ⊗ ofInt binary64 z ⊗ x) ⊗ powerOf b (z -ℤ pos 1))) ≡ plus 0 1 a b r (row i j n)
+slope-row a b r n i j {x} e p =
+    ap (λ (z : ℤ). cond (gone z 1) r (r ⊕ ((n ⊗ ofInt binary64 z ⊗ x) ⊗ powerOf b (z -ℤ pos 1)))) e
+    ∙ guarded (gone j 1) (λ g. first-b a b r n i j refl g (p ∙ plain a i) refl) (λ g. out-by-b 0 1 a b r n i j g)
 
 -- ---- the second derivatives
 pub second-a : (a b r n : Float) (i j : ℤ) {z : ℤ} {x y : Float} → z ≡ i → (gone i 2 ≡ false → x ≡ powerOf a (i -ℤ pos 2)) → y ≡ powerOf b (j -ℤ pos 0)

@@ -63,31 +63,14 @@ pub fn reach(x: f64, c: Carried, m: u32) -> Carried
     }
 }
 
-// A power p = x^k that is carried, and the power v that was asked for.
-pub struct Power {
-    pub k: u32,
-    pub p: f64,
-    pub v: f64,
-}
-
-// x^w, from the power carried.
-pub fn onto(x: f64, c: Power, w: i32) -> Power
-    requires { ⌜ (c .p ≡ raised x (c .k)) × (SFits w16 w) ⌝ }
-    ensures { λ r. ⌜ (r .p ≡ raised x (r .k)) × (r .v ≡ powerOf x w) ⌝ }
+// x^w for a row alone.
+pub fn power(x: f64, w: i32) -> f64
+    requires { ⌜ SFits w16 w ⌝ }
+    ensures { λ r. ⌜ r ≡ powerOf x w ⌝ }
 {
-    let from = Carried { k: c.k, p: c.p };
-    if 0 <= w {
-        let d = reach(x, from, w as u32);
-        return Power {
-            k: d.k,
-            p: d.p,
-            v: d.p,
-        };
-    }
-    let d = reach(x, from, (0 - w) as u32);
-    Power {
-        k: d.k,
-        p: d.p,
-        v: 1.0 / d.p,
+    if w < 0 {
+        1.0 / afresh(x, (0 - w) as u32)
+    } else {
+        afresh(x, w as u32)
     }
 }

@@ -3,6 +3,7 @@
 use crate::powers;
 use crate::powers::Carried;
 ghost use mathlib.Core.Path.{_≡_};
+ghost use lib.IntN.{pos, _-ℤ_};
 ghost use Rattle.arith.specs.Power.{raised, powerOf};
 ghost use Rattle.terms.specs.Stored.{Stored};
 
@@ -41,6 +42,19 @@ pub fn power(x: f64, p: &[f64], e: i8) -> f64
         1.0 / raised(x, p, (0 - e as i32) as u32)
     } else {
         raised(x, p, e as u32)
+    }
+}
+
+// x^(e-1), of which the first derivative of x^e is made.
+pub fn lower_power(x: f64, p: &[f64], e: i8) -> f64
+    requires { ⌜ Stored x (now p) ⌝ }
+    ensures { λ r. ⌜ r ≡ powerOf x (e -ℤ pos 1) ⌝ }
+{
+    let w = e as i32 - 1;
+    if w < 0 {
+        1.0 / raised(x, p, (0 - w) as u32)
+    } else {
+        raised(x, p, w as u32)
     }
 }
 

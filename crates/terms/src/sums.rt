@@ -1,49 +1,19 @@
-// One sum of a table. The value itself, of which the backward equations are made, looks its powers up
-// (stored.rt); the first derivative by B, of which the enthalpy is made, carries them (powers.rt); any
-// other derivative forms each power again.
+// One sum of a table. The value itself, of which the backward equations are made, and the first
+// derivative by B, of which the enthalpy is made, look their powers up (stored.rt); any other derivative
+// forms each power again.
 use crate::powers;
-use crate::powers::Power;
 use crate::rows;
 use crate::stored;
 ghost use mathlib.Core.Path.{_≡_};
-ghost use mathlib.Core.Bool.{false, cond};
+ghost use mathlib.Core.Bool.{cond};
 ghost use lib.IntN.{pos, _-ℤ_};
 ghost use lib.Ieee.{binary64, ofInt};
 ghost use mir.Val.{SFits};
 ghost use mir.Syntax.{w16};
 ghost use Rattle.arith.specs.F64.{_⊕_, _⊗_};
-ghost use Rattle.arith.specs.Power.{raised, powerOf};
+ghost use Rattle.arith.specs.Power.{powerOf};
 ghost use Rattle.terms.specs.Sum.{row, rows, scaled, gone, plus, sumOf};
 ghost use Rattle.terms.specs.Stored.{Stored};
-
-// x^e.
-fn toward(x: f64, c: Power, e: i8) -> Power
-    requires { ⌜ c .p ≡ raised x (c .k) ⌝ }
-    ensures { λ r. ⌜ (r .p ≡ raised x (r .k)) × (r .v ≡ powerOf x e) ⌝ }
-{
-    powers::onto(x, c, e as i32)
-}
-
-// x^(e-1), which no term asks for where e is 0.
-fn past(x: f64, c: Power, e: i8) -> Power
-    requires { ⌜ c .p ≡ raised x (c .k) ⌝ }
-    ensures { λ r. ⌜ (r .p ≡ raised x (r .k)) × (gone e 1 ≡ false → r .v ≡ powerOf x (e -ℤ pos 1)) ⌝ }
-{
-    if e == 0 {
-        return c;
-    }
-    powers::onto(x, c, e as i32 - 1)
-}
-
-// r and the derivative by B of a row's term, from its powers; no term where J is 0.
-fn slope(r: f64, n: f64, j: i8, x: f64, y: f64) -> f64
-    ensures { λ v. ⌜ v ≡ cond (gone j 1) r (r ⊕ ((n ⊗ ofInt binary64 j ⊗ x) ⊗ y)) ⌝ }
-{
-    if j == 0 {
-        return r;
-    }
-    r + n * (j as f64) * x * y
-}
 
 // The sum itself, from the powers of a that pa stores and those of b that pb stores.
 fn walked(n: &[f64], i: &[i8], j: &[i8], a: f64, b: f64, pa: &[f64], pb: &[f64]) -> f64
@@ -76,30 +46,47 @@ fn values(n: &[f64], i: &[i8], j: &[i8], a: f64, b: f64) -> f64
     walked(n, i, j, a, b, &pa, &pb)
 }
 
-// The derivative of the sum by B.
-fn slopes(n: &[f64], i: &[i8], j: &[i8], a: f64, b: f64) -> f64
+// r and the derivative by B of a row's term, from its power x of A and the powers of b that pb stores;
+// no term where J is 0.
+fn slope(r: f64, n: f64, j: i8, x: f64, b: f64, pb: &[f64]) -> f64
+    requires { ⌜ Stored b (now pb) ⌝ }
+    ensures { λ v. ⌜ v ≡ cond (gone j 1) r (r ⊕ ((n ⊗ ofInt binary64 j ⊗ x) ⊗ powerOf b (j -ℤ pos 1))) ⌝ }
+{
+    if j == 0 {
+        return r;
+    }
+    r + n * (j as f64) * x * stored::lower_power(b, pb, j)
+}
+
+// The derivative of the sum by B, from the powers that pa and pb store.
+fn sloped(n: &[f64], i: &[i8], j: &[i8], a: f64, b: f64, pa: &[f64], pb: &[f64]) -> f64
+    requires { ⌜ (Stored a (now pa)) × (Stored b (now pb)) ⌝ }
     ensures { λ r. ⌜ r ≡ sumOf (rows (now (n .entry)) (now (i .entry)) (now (j .entry))) 0 1 a b ⌝ }
 {
     let m = rows::count(n, i, j);
     let mut r = 0.0;
-    let mut x = Power {
-        k: 0,
-        p: 1.0,
-        v: 1.0,
-    };
-    let mut y = Power {
-        k: 0,
-        p: 1.0,
-        v: 1.0,
-    };
+    let mut d = 0i8;
+    let mut x = 1.0;
     let mut k = 0usize;
     while k < m {
-        x = toward(a, x, i[k]);
-        y = past(b, y, j[k]);
-        r = slope(r, n[k], j[k], x.v, y.v);
+        x = stored::kept(a, pa, d, x, i[k]);
+        d = i[k];
+        r = slope(r, n[k], j[k], x, b, pb);
         k += 1;
     }
     r
+}
+
+// The derivative of the sum by B, with as many powers stored as regions 1 and 2 ask for: I is at most
+// 32 in size and J - 1 57.
+fn slopes(n: &[f64], i: &[i8], j: &[i8], a: f64, b: f64) -> f64
+    ensures { λ r. ⌜ r ≡ sumOf (rows (now (n .entry)) (now (i .entry)) (now (j .entry))) 0 1 a b ⌝ }
+{
+    let mut pa = [0.0; 33];
+    stored::fill(a, &mut pa);
+    let mut pb = [0.0; 58];
+    stored::fill(b, &mut pb);
+    sloped(n, i, j, a, b, &pa, &pb)
 }
 
 // e - d.
@@ -113,13 +100,7 @@ fn lowered(e: i8, d: u8) -> i32
 fn power(x: f64, e: i8, d: u8) -> f64
     ensures { λ r. ⌜ r ≡ powerOf x (e -ℤ pos d) ⌝ }
 {
-    let none = Power {
-        k: 0,
-        p: 1.0,
-        v: 1.0,
-    };
-    let c = powers::onto(x, none, lowered(e, d));
-    c.v
+    powers::power(x, lowered(e, d))
 }
 
 // n·e·(e-1).., d factors in all.

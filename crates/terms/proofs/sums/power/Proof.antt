@@ -5,8 +5,7 @@ use mir.Syntax.{w16, w32}
 use mir.Val.{SFits, toZ, ofZ}
 use mir.Facts.{toZ-ofZ, sfits-widen}
 use borrow.Author.Needs.{needs}
-use Rattle.arith.specs.Power.{raised, powerOf}
-use Rattle.arith.proofs.Literals.{one-is}
+use Rattle.arith.specs.Power.{powerOf}
 use Rattle.terms.proofs.sums.power.Statement.{statement}
 use Rattle.terms.proofs.sums.power.Tie as tie
 
@@ -16,16 +15,15 @@ lowered-requires c κs = search needs
 read : (c : tie.After-lowered) → toZ w32 (ofZ w32 (c .lowered .result)) ≡ c .lowered .result
 read c = toZ-ofZ (sfits-widen {w = w16} {w′ = w32} tt (c .lowered .ensures .1))
 
-onto-requires : tie.Need-onto-requires
-unfolding raised
-onto-requires c κs = (one-is, subst (SFits w16) (sym (read c)) (c .lowered .ensures .1))
+power-requires : tie.Need-power-requires
+power-requires c κs = subst (SFits w16) (sym (read c)) (c .lowered .ensures .1)
 
 returns : tie.Need-returns
 returns c =
     let l = c .before in
     let s = l .before in
-    c .onto .ensures .1
+    c .power .ensures
     ∙ ap (powerOf (s .args .x)) (read l ∙ l .lowered .ensures .0 ∙ ap (λ (z : ℤ). z -ℤ pos (s .args .d)) (toZ-ofZ (s .fits .e)))
 
 pub power-spec : {M : Type 1} → statement M
-power-spec = tie.close (tie.spec lowered-requires onto-requires returns)
+power-spec = tie.close (tie.spec lowered-requires power-requires returns)
