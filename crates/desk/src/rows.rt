@@ -9,7 +9,7 @@ use super::Want;
 pub const HALVINGS: u64 = 40;
 
 // A row as in a new desk.
-pub fn blank_row() -> Row
+pub(crate) fn blank_row() -> Row
     ensures { λ r. ⌜ r ≡ blank ⌝ }
 {
     Row {
@@ -51,7 +51,7 @@ fn meets(w: Want, r: Row) -> bool
 
 // The first row that is looked for at or after the row `from`, round the end: how many places on it
 // lies, and 32 where there is none.
-pub fn places_on(d: Desk, w: Want, from: usize) -> usize
+pub(crate) fn places_on(d: Desk, w: Want, from: usize) -> usize
     ensures { λ r. ⌜ r ≡ onward (wants w) d from ⌝ }
 {
     let mut k = 0usize;
@@ -67,7 +67,7 @@ pub fn places_on(d: Desk, w: Want, from: usize) -> usize
 }
 
 // How many rows a caller has open.
-pub fn count_open(d: Desk, caller: u64) -> u64
+pub(crate) fn count_open(d: Desk, caller: u64) -> u64
     ensures { λ r. ⌜ r ≡ tally (ofCaller caller) d ⌝ }
 {
     let mut n = 0u64;

@@ -98,7 +98,7 @@ fn rows_right(d: Desk) -> bool
 }
 
 // Whether a desk is sound.
-pub fn is_sound(d: Desk) -> bool
+pub(crate) fn is_sound(d: Desk) -> bool
     ensures { λ b. ⌜ b ≡ sound d ⌝ }
 {
     if 31 < d.pointer {

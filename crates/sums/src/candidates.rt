@@ -57,7 +57,7 @@ fn agreed(region: u64, p: f64, t: f64, h: f64, s: f64) -> Outcome
 }
 
 // The state of region 1 or 2 that h in kJ/kg and s in kJ/(kg K) point to, or 7 if it does not pass.
-pub fn candidate(region: u64, h: f64, s: f64) -> Outcome
+pub(crate) fn candidate(region: u64, h: f64, s: f64) -> Outcome
     ensures { λ r. ⌜ r ≡ outcomeOf (candidateOf region h s) ⌝ }
 {
     let p = pressure(region, h, s);

@@ -16,7 +16,7 @@ pub struct Full {
 }
 
 // Whether x and y differ by at most the margin.
-pub fn near(margin: f64, x: f64, y: f64) -> bool
+pub(crate) fn near(margin: f64, x: f64, y: f64) -> bool
     ensures { λ r. ⌜ r ≡ near margin x y ⌝ }
 {
     let d = x - y;
@@ -28,14 +28,14 @@ pub fn near(margin: f64, x: f64, y: f64) -> bool
 
 // Whether an h in kJ/kg and an s in kJ/(kg K) come back to the one that was asked: h within 0.08, s
 // within 0.0001.
-pub fn verified(given: Given, h: f64, s: f64, y: f64) -> bool
+pub(crate) fn verified(given: Given, h: f64, s: f64, y: f64) -> bool
     ensures { λ r. ⌜ r ≡ verifiedOf given h s y ⌝ }
 {
     near(given_of(given, 0.08, 0.0001), given_of(given, h, s), y)
 }
 
 // A state as it was worked in a region at p and T, with its mark.
-pub fn with_mark(region: u64, p: f64, t: f64, a: Worked, verified: bool) -> Full
+pub(crate) fn with_mark(region: u64, p: f64, t: f64, a: Worked, verified: bool) -> Full
     ensures { λ r. ⌜ r ≡ fullWith region p t a verified ⌝ }
 {
     let state = a.state;
@@ -53,7 +53,7 @@ pub fn with_mark(region: u64, p: f64, t: f64, a: Worked, verified: bool) -> Full
 }
 
 // The state in a region at p and T, marked by the h or s that was asked.
-pub fn full_marked(given: Given, region: u64, p: f64, y: f64, t: f64) -> Full
+pub(crate) fn full_marked(given: Given, region: u64, p: f64, y: f64, t: f64) -> Full
     ensures { λ r. ⌜ r ≡ fullOf (markedOf given region p y t) ⌝ }
 {
     let a = worked_at(region, p, t);

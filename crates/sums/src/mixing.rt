@@ -15,7 +15,7 @@ fn mixed(x: f64, liquid: f64, vapour: f64) -> f64
 }
 
 // The wet state at p and its Ts that has the h or s asked.
-pub fn mixture(given: Given, p: f64, y: f64, t: f64, liquid: State, vapour: State) -> Wet
+pub(crate) fn mixture(given: Given, p: f64, y: f64, t: f64, liquid: State, vapour: State) -> Wet
     ensures { λ r. ⌜ r ≡ mixtureOf given p y t liquid vapour ⌝ }
 {
     let least = given_of(given, liquid.h, liquid.s);

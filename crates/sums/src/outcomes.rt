@@ -32,7 +32,7 @@ pub enum Outcome {
 }
 
 // The answer alone.
-pub fn shown(o: Outcome) -> Answer
+pub(crate) fn shown(o: Outcome) -> Answer
     ensures { λ r. ⌜ r ≡ shownOf o ⌝ }
 {
     match o {
@@ -46,7 +46,7 @@ pub fn shown(o: Outcome) -> Answer
 }
 
 // From p in MPa and T in K.
-pub fn of_pt(p: f64, t: f64) -> Outcome
+pub(crate) fn of_pt(p: f64, t: f64) -> Outcome
     ensures { λ r. ⌜ r ≡ outcomeOf (answerPT p t) ⌝ }
 {
     match place_pt(p, t) {
@@ -59,7 +59,7 @@ pub fn of_pt(p: f64, t: f64) -> Outcome
 }
 
 // T in K by the backward equation of region 1 or 2 for p in MPa and an h in kJ/kg or s in kJ/(kg K).
-pub fn temperature(given: Given, region: u64, p: f64, y: f64) -> f64
+pub(crate) fn temperature(given: Given, region: u64, p: f64, y: f64) -> f64
     ensures { λ r. ⌜ r ≡ temperatureOf given region p y ⌝ }
 {
     if region == 1 {
@@ -129,7 +129,7 @@ fn ranged(given: Given, p: f64, y: f64) -> Outcome
 }
 
 // From p in MPa and an h in kJ/kg or s in kJ/(kg K).
-pub fn of_py(given: Given, p: f64, y: f64) -> Outcome
+pub(crate) fn of_py(given: Given, p: f64, y: f64) -> Outcome
     ensures { λ r. ⌜ r ≡ outcomeOf (answerPY given p y) ⌝ }
 {
     if wild(p, y) {
@@ -142,7 +142,7 @@ pub fn of_py(given: Given, p: f64, y: f64) -> Outcome
 }
 
 // From h in kJ/kg and s in kJ/(kg K).
-pub fn of_hs(h: f64, s: f64) -> Outcome
+pub(crate) fn of_hs(h: f64, s: f64) -> Outcome
     ensures { λ r. ⌜ r ≡ outcomeOf (answerHS h s) ⌝ }
 {
     if wild(h, s) {
@@ -156,7 +156,7 @@ pub fn of_hs(h: f64, s: f64) -> Outcome
 }
 
 // By the number of the kind.
-pub fn of_kind(kind: u64, x: f64, y: f64) -> Outcome
+pub(crate) fn of_kind(kind: u64, x: f64, y: f64) -> Outcome
     ensures { λ r. ⌜ r ≡ outcomeOf (answerOf kind x y) ⌝ }
 {
     match kind {

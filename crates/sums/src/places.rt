@@ -10,14 +10,14 @@ pub enum Place {
 }
 
 // Whether one of two inputs is NaN or infinite.
-pub fn wild(x: f64, y: f64) -> bool
+pub(crate) fn wild(x: f64, y: f64) -> bool
     ensures { λ r. ⌜ r ≡ wild x y ⌝ }
 {
     !arith::is_finite(x) || !arith::is_finite(y)
 }
 
 // Whether x is below least or above most.
-pub fn outside(least: f64, most: f64, x: f64) -> bool
+pub(crate) fn outside(least: f64, most: f64, x: f64) -> bool
     ensures { λ r. ⌜ r ≡ outside least most x ⌝ }
 {
     x < least || most < x
@@ -49,7 +49,7 @@ fn table(p: f64, t: f64) -> Place
 }
 
 // The region of (p,T), or the refusal.
-pub fn place_pt(p: f64, t: f64) -> Place
+pub(crate) fn place_pt(p: f64, t: f64) -> Place
     ensures { λ r. ⌜ r ≡ placePT p t ⌝ }
 {
     if wild(p, t) {
@@ -65,7 +65,7 @@ pub fn place_pt(p: f64, t: f64) -> Place
 }
 
 // Whether p is at most P = ps(623.15), where the saturation line meets region 3.
-pub fn saturates(p: f64) -> bool
+pub(crate) fn saturates(p: f64) -> bool
     ensures { λ r. ⌜ r ≡ le p pEnd ⌝ }
 {
     p <= 16.529164252604478

@@ -46,7 +46,7 @@ fn worked_5(p: f64, t: f64) -> Worked
 }
 
 // The state in a region at p and T.
-pub fn worked_at(region: u64, p: f64, t: f64) -> Worked
+pub(crate) fn worked_at(region: u64, p: f64, t: f64) -> Worked
     ensures { λ r. ⌜ r ≡ workedAt region p t ⌝ }
 {
     if region == 1 {
@@ -59,7 +59,7 @@ pub fn worked_at(region: u64, p: f64, t: f64) -> Worked
 }
 
 // Of an h and an s, the one that is given.
-pub fn given_of(given: Given, h: f64, s: f64) -> f64
+pub(crate) fn given_of(given: Given, h: f64, s: f64) -> f64
     ensures { λ r. ⌜ r ≡ givenOf given h s ⌝ }
 {
     match given {

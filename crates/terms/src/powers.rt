@@ -44,7 +44,7 @@ fn afresh(x: f64, m: u32) -> f64
 }
 
 // x^m, from the power carried if that is not higher.
-pub fn reach(x: f64, c: Carried, m: u32) -> Carried
+pub(crate) fn reach(x: f64, c: Carried, m: u32) -> Carried
     requires { ⌜ c .p ≡ raised x (c .k) ⌝ }
     ensures { λ r. ⌜ r ≡ carry x m ⌝ }
 {
@@ -64,7 +64,7 @@ pub fn reach(x: f64, c: Carried, m: u32) -> Carried
 }
 
 // x^w for a row alone.
-pub fn power(x: f64, w: i32) -> f64
+pub(crate) fn power(x: f64, w: i32) -> f64
     requires { ⌜ SFits w16 w ⌝ }
     ensures { λ r. ⌜ r ≡ powerOf x w ⌝ }
 {

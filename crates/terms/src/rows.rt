@@ -12,7 +12,7 @@ fn smaller(x: usize, y: usize) -> usize
 }
 
 // The number of rows: as many as the shortest slice has.
-pub fn count(n: &[f64], i: &[i8], j: &[i8]) -> usize
+pub(crate) fn count(n: &[f64], i: &[i8], j: &[i8]) -> usize
     ensures { λ r. ⌜ r ≡ length (rows (now (n .entry)) (now (i .entry)) (now (j .entry))) ⌝ }
 {
     smaller(n.len(), smaller(i.len(), j.len()))

@@ -8,7 +8,7 @@ ghost use Rattle.arith.specs.Power.{raised, powerOf};
 ghost use Rattle.terms.specs.Stored.{Stored};
 
 // The powers of x, from x^0 on, as many as p has room for.
-pub fn fill(x: f64, p: &mut [f64])
+pub(crate) fn fill(x: f64, p: &mut [f64])
     ensures { λ _. ⌜ Stored x (now (p .exit)) ⌝ }
 {
     let mut r = 1.0;
@@ -34,7 +34,7 @@ fn raised(x: f64, p: &[f64], m: u32) -> f64
 }
 
 // x^e.
-pub fn power(x: f64, p: &[f64], e: i8) -> f64
+pub(crate) fn power(x: f64, p: &[f64], e: i8) -> f64
     requires { ⌜ Stored x (now p) ⌝ }
     ensures { λ r. ⌜ r ≡ powerOf x e ⌝ }
 {
@@ -46,7 +46,7 @@ pub fn power(x: f64, p: &[f64], e: i8) -> f64
 }
 
 // x^(e-1), of which the first derivative of x^e is made.
-pub fn lower_power(x: f64, p: &[f64], e: i8) -> f64
+pub(crate) fn lower_power(x: f64, p: &[f64], e: i8) -> f64
     requires { ⌜ Stored x (now p) ⌝ }
     ensures { λ r. ⌜ r ≡ powerOf x (e -ℤ pos 1) ⌝ }
 {
@@ -59,7 +59,7 @@ pub fn lower_power(x: f64, p: &[f64], e: i8) -> f64
 }
 
 // x^e, where y = x^d is at hand: in a table, most rows have the exponent of the row before.
-pub fn kept(x: f64, p: &[f64], d: i8, y: f64, e: i8) -> f64
+pub(crate) fn kept(x: f64, p: &[f64], d: i8, y: f64, e: i8) -> f64
     requires { ⌜ (Stored x (now p)) × (y ≡ powerOf x d) ⌝ }
     ensures { λ r. ⌜ r ≡ powerOf x e ⌝ }
 {
