@@ -1,17 +1,14 @@
--- Every text fits the room that its program lends, so that none is cut: a number has at most 20 digits, a value 16, a sheet that reads at most
--- 2,500 rows in any version, and its note at most 4,096 bytes. Assumes nothing.
-use Prim.Native.Nat.{ℕ, zero, suc, _+_, _*_, _/_, _%_, _≤_}
-use native.Mathlib.Nat.{mul-suc}
+-- Every text fits the room that its program lends, so that none is cut: a sheet that reads has at most 2,500 rows in any version, and its note at most
+-- 4,096 bytes. Assumes nothing.
+use Prim.Native.Nat.{ℕ, _+_, _*_, _/_, _%_, _≤_}
 use native.Mathlib.Omega.{arith}
 use mathlib.Core.Path.{_≡_, refl}
 use mathlib.Core.Bool.{Bool, true, false, cond}
 use mathlib.Core.List.{List, [], _∷_, _++_}
 use lib.Dec.{ltb, eqb}
-use lib.Ieee.{isNan, binary64, toBits}
 use lib.ListN.{length, take, getD, length-append, length-take}
-use Rattle.text.specs.Texts.{decimalFrom, decimalOf, hexDigit, hexFrom, hexOf, valueOf, columnOf}
-use Rattle.text.specs.declared.Cell.{Cell}
-use Rattle.text.specs.declared.Cell.the-variants as Cell
+use Rattle.text.specs.Texts.{joined, blank, newline}
+use Rattle.text.proofs.Lengths.{digits, column-short, joined-short}
 use Rattle.arith.specs.Bits.{floatOf}
 use Rattle.sums.specs.Answers.{numberOf, regionOf, valuesOf}
 use Rattle.sums.specs.Quotients.{quotientOf}
@@ -24,46 +21,12 @@ use Rattle.sheet.specs.Rows.{rowOf}
 use Rattle.sheet.specs.declared.reader.Reading.{Reading}
 use Rattle.sheet.specs.declared.reader.Reading.the-variants.{Rows, Refused}
 use Rattle.sheet.proofs.ReadLaws.{trailer-rows, read-inv, read-fits}
-use Rattle.listing.specs.Lines.{joined, blank, newline, cellOf, askedOf, verdictOf, valueColumn, valueColumns, answerLine, refusalOf, quotientCell, quotientLine, tripleLine, quotientLines, refusedLine}
+use Rattle.listing.specs.Lines.{cellOf, askedOf, verdictOf, valueColumn, valueColumns, answerLine, refusalOf, quotientCell, quotientLine, tripleLine, quotientLines, refusedLine}
 use Rattle.listing.specs.Listings.{longest, openedOf, headerOf, rowLine, lineAt, listedOf, regionsText, answersText, inTriples, triplesOf, quotientsHead, quotientsRow}
 use Rattle.listing.specs.declared.Listing.{Listing}
 use Rattle.listing.specs.declared.Listing.the-variants.{Regions, Answers}
 
--- ---- columns
-
-decimal-from : (k n : ℕ) → length (decimalFrom k n) ≤ k
-unfolding decimalFrom
-decimal-from zero n = omega arith
-decimal-from (suc k) n = go (ltb n 10) (decimal-from k (n / 10))
-  where
-    go : (t : Bool) → length (decimalFrom k (n / 10)) ≤ k → length (cond t ((48 + n) ∷ []) (decimalFrom k (n / 10) ++ (48 + n % 10) ∷ [])) ≤ suc k
-    go true h = omega arith
-    go false h = omega (arith, length-append (decimalFrom k (n / 10)) ((48 + n % 10) ∷ []))
-
-digits : (n : ℕ) → length (decimalOf n) ≤ 20
-unfolding decimalOf
-digits n = decimal-from 20 n
-
-hex-from : (k n : ℕ) → length (hexFrom k n) ≤ k
-unfolding hexFrom
-hex-from zero n = omega arith
-hex-from (suc k) n = omega (arith, length-append (hexFrom k (n / 16)) (hexDigit (n % 16) ∷ []), hex-from k (n / 16))
-
-column-short : (c : Cell) → length (columnOf c) ≤ 16
-unfolding columnOf valueOf hexOf
-column-short Cell.Empty = omega arith
-column-short (Cell.Value x) = go (isNan x)
-  where
-    go : (t : Bool) → length (cond t (110 ∷ 97 ∷ 110 ∷ []) (hexFrom 16 (toBits binary64 x))) ≤ 16
-    go true = omega arith
-    go false = hex-from 16 (toBits binary64 x)
-
 -- ---- lines
-
-joined-short : (text : ℕ → List ℕ) (m n : ℕ) → ((k : ℕ) → length (text k) ≤ m) → length (joined text n) ≤ m * n
-unfolding joined
-joined-short text m zero h = omega arith
-joined-short text m (suc n) h = omega (arith, length-append (joined text n) (text n), joined-short text m n h, h n, mul-suc m n)
 
 refused-short : (n : ℕ) → length (refusedLine n) ≤ 29
 unfolding refusedLine

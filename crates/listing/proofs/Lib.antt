@@ -1,5 +1,4 @@
--- `Joined`: texts written one behind the other. `NineValues`: the values of an answer. `Fits`: no text is cut. `Only`: no second result.
-pub mod Joined
+-- `NineValues`: the values of an answer. `Fits`: no text is cut. `Only`: no second result.
 pub mod NineValues
 pub mod Fits
 pub mod Only

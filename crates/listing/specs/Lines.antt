@@ -4,7 +4,7 @@ use mathlib.Core.Bool.{Bool, true, false}
 use mathlib.Core.List.{List, [], _∷_, _++_}
 use lib.ListN.{length, getD}
 use Rattle.arith.specs.Bits.{floatOf}
-use Rattle.text.specs.Texts.{decimalOf, columnOf}
+use Rattle.text.specs.Texts.{columnOf, blank, newline, numberColumn, joined}
 use Rattle.text.specs.declared.Cell.{Cell}
 use Rattle.text.specs.declared.Cell.the-variants as Cell
 use Rattle.sheet.specs.declared.rows.Point.{Point}
@@ -17,22 +17,6 @@ use Rattle.sums.specs.declared.Value.{Value}
 use Rattle.sums.specs.declared.Value.the-variants.{Is, Missing}
 use Rattle.sums.specs.declared.Derivative.{Derivative}
 use Rattle.sums.specs.declared.Derivative.the-variants as Derivative
-
--- n texts one behind the other, numbered from 0
-unfoldable pub joined : (ℕ → List ℕ) → ℕ → List ℕ
-joined text zero = []
-joined text (suc k) = joined text k ++ text k
-
--- what stands behind a column, and behind the last
-abbrev pub blank : ℕ
-blank = 32
-
-abbrev pub newline : ℕ
-newline = 10
-
--- a number's column
-abbrev pub numberColumn : ℕ → ℕ → List ℕ
-numberColumn n end = decimalOf n ++ end ∷ []
 
 -- `refused N`, all that is said of a refused sheet
 unfoldable pub refusedLine : ℕ → List ℕ

@@ -11,7 +11,8 @@ use Rattle.sheet.specs.declared.reader.Reading.the-variants.{Rows, Refused}
 use Rattle.sheet.specs.declared.rows.Point.{Point}
 use Rattle.listing.specs.declared.Listing.{Listing}
 use Rattle.listing.specs.declared.Listing.the-variants.{Regions, Answers}
-use Rattle.listing.specs.Lines.{joined, newline, refusedLine, regionLine, answerLine, quotientLines}
+use Rattle.text.specs.Texts.{joined, newline}
+use Rattle.listing.specs.Lines.{refusedLine, regionLine, answerLine, quotientLines}
 
 -- the longest sheet: a note of 4,096 bytes, 1,000 rows and the trailer
 abbrev pub longest : ℕ

@@ -7,7 +7,8 @@ use crate::columns::verdict;
 use sheet::Point;
 ghost use mathlib.Core.Path.{_≡_};
 ghost use Rattle.text.specs.Room.{Written};
-ghost use Rattle.listing.specs.Lines.{joined, refusedLine, regionLine, answerLine};
+ghost use Rattle.text.specs.Texts.{joined};
+ghost use Rattle.listing.specs.Lines.{refusedLine, regionLine, answerLine};
 ghost use Rattle.listing.specs.Listings.{headerOf, rowLine, lineAt};
 
 // Writes `refused N`.

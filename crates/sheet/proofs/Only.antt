@@ -8,6 +8,8 @@ use Rattle.sheet.proofs.reader.read.Kinds as read-kinds
 use Rattle.sheet.proofs.reader.read.Reads as read
 use Rattle.sheet.proofs.rows.row.Kinds as row-kinds
 use Rattle.sheet.proofs.rows.row.Reads as row
+use Rattle.sheet.proofs.words.word.Kinds as word-kinds
+use Rattle.sheet.proofs.words.word.Reads as word
 use Rattle.sheet.proofs.writer.write.Kinds as write-kinds
 use Rattle.sheet.proofs.writer.write.Reads as write
 
@@ -16,6 +18,9 @@ read-only κs a x y s t p q = p ∙ sym q
 
 pub row-only : Only 1 row-kinds.ps row-kinds.r row.Post
 row-only κs a x y s t p q = p ∙ sym q
+
+pub word-only : Only 1 word-kinds.ps word-kinds.r word.Post
+word-only κs a x y s t p q = p ∙ sym q
 
 pub write-only : OnlyRoom 3 write-kinds.ps write-kinds.r (λ κs s. now (s .1 .1 .0)) write.Post
 write-only κs a x y s t p q = (p .0 ∙ sym (q .0), p .1 ∙ sym (q .1))

@@ -12,5 +12,6 @@ pub use reader::Reading;
 pub use reader::read;
 pub use rows::Point;
 pub use rows::row;
+pub use words::word;
 pub use writer::Writing;
 pub use writer::write;

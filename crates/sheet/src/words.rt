@@ -2,7 +2,7 @@
 ghost use mathlib.Core.Path.{_≡_};
 ghost use Prim.Native.Nat.{_+_, _≤_, _<_};
 ghost use lib.ListN.{length, getD};
-ghost use Rattle.sheet.specs.Words.{u32At, u64At};
+ghost use Rattle.sheet.specs.Words.{u32At, u64At, wordOf};
 
 // A byte as a u64.
 fn wide(x: u8) -> u64
@@ -33,4 +33,11 @@ pub(crate) fn u64_at(s: &[u8], i: usize) -> u64
     ensures { λ r. ⌜ r ≡ u64At (now (s .entry)) i ⌝ }
 {
     u32_at(s, i) + 4294967296 * u32_at(s, i + 4)
+}
+
+// Number k, counted from 0, of a slice of u64s. Where the slice does not hold the whole of it, 0.
+pub fn word(s: &[u8], k: usize) -> u64
+    ensures { λ r. ⌜ r ≡ wordOf (now (s .entry)) k ⌝ }
+{
+    if k < s.len() / 8 { u64_at(s, 8 * k) } else { 0 }
 }

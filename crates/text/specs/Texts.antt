@@ -1,4 +1,4 @@
--- Numbers as text, in bytes of ASCII: whole numbers in decimal, 64 bits in hexadecimal, and the f64 column of the programs. Definitions only.
+-- Text in bytes of ASCII: whole numbers in decimal, 64 bits in hexadecimal, the f64 column of the programs, and texts one behind the other. Definitions only.
 use Prim.Native.Nat.{ℕ, zero, suc, _+_, _/_, _%_}
 use mathlib.Core.Bool.{cond}
 use mathlib.Core.List.{List, [], _∷_, _++_}
@@ -36,3 +36,19 @@ valueOf x = cond (isNan x) (110 ∷ 97 ∷ 110 ∷ []) (hexOf (toBits binary64 x
 unfoldable pub columnOf : Cell → List ℕ
 columnOf (Value x) = valueOf x
 columnOf Empty = 45 ∷ []
+
+-- what stands behind a column, and behind the last
+abbrev pub blank : ℕ
+blank = 32
+
+abbrev pub newline : ℕ
+newline = 10
+
+-- a number's column
+abbrev pub numberColumn : ℕ → ℕ → List ℕ
+numberColumn n end = decimalOf n ++ end ∷ []
+
+-- n texts one behind the other, numbered from 0
+unfoldable pub joined : (ℕ → List ℕ) → ℕ → List ℕ
+joined text zero = []
+joined text (suc k) = joined text k ++ text k

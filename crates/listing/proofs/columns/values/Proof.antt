@@ -1,6 +1,6 @@
 -- `listing::columns::values` meets its contract: a loop of eight columns, and the ninth. Assumes nothing.
 use mathlib.Core.List.{[], _∷_, _++_}
-use Rattle.text.specs.Texts.{columnOf}
+use Rattle.text.specs.Texts.{columnOf, joined, blank, newline}
 use Rattle.text.specs.declared.Cell.{Cell}
 use Rattle.sums.specs.declared.Value.{Value}
 use Rattle.sums.specs.declared.Value.the-variants.{Missing}
@@ -12,8 +12,8 @@ use native.Mathlib.Omega.{arith}
 use borrow.Author.Needs.{needs}
 use Rattle.text.specs.Room.{Written}
 use Rattle.text.proofs.Pieces.{then, said, kept}
-use Rattle.listing.specs.Lines.{joined, blank, newline, valueColumn, valueColumns}
-use Rattle.listing.proofs.Joined.{begun, turned, ended}
+use Rattle.listing.specs.Lines.{valueColumn, valueColumns}
+use Rattle.text.proofs.Joined.{begun, turned, ended}
 use Rattle.listing.proofs.columns.values.Statement.{statement}
 use Rattle.listing.proofs.columns.values.Tie as tie
 

@@ -2,7 +2,8 @@
 use Prim.Native.Nat.{ℕ}
 use mathlib.Core.Path.{ap}
 use Rattle.text.proofs.Pieces.{then, said}
-use Rattle.listing.specs.Lines.{blank, numberColumn, verdictOf}
+use Rattle.text.specs.Texts.{blank, numberColumn}
+use Rattle.listing.specs.Lines.{verdictOf}
 use borrow.Author.Needs.{needs}
 use Rattle.listing.proofs.columns.verdict.Statement.{statement}
 use Rattle.listing.proofs.columns.verdict.Tie as tie

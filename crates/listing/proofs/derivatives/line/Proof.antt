@@ -3,12 +3,12 @@ use Prim.Native.Nat.{ℕ}
 use mathlib.Core.Path.{_≡_, ap}
 use mathlib.Core.List.{List, [], _∷_, _++_}
 use lib.Ieee.{Float}
-use Rattle.text.specs.Texts.{columnOf}
+use Rattle.text.specs.Texts.{columnOf, blank, newline, numberColumn}
 use Rattle.text.specs.declared.Cell.{Cell}
 use Rattle.text.proofs.Pieces.{then, said}
 use Rattle.sums.specs.Quotients.{quotientOf}
 use Rattle.sums.specs.declared.Derivative.{Derivative}
-use Rattle.listing.specs.Lines.{blank, newline, numberColumn, refusalOf, quotientCell, quotientLine}
+use Rattle.listing.specs.Lines.{refusalOf, quotientCell, quotientLine}
 use borrow.Author.Needs.{needs}
 use Rattle.listing.proofs.derivatives.line.Statement.{statement}
 use Rattle.listing.proofs.derivatives.line.Tie as tie

@@ -6,8 +6,9 @@ use native.Mathlib.Omega.{arith}
 use lib.ListN.{getD}
 use Rattle.text.specs.Room.{Written}
 use Rattle.text.proofs.Pieces.{said, kept}
-use Rattle.listing.specs.Lines.{joined, quotientLine, tripleLine, quotientLines}
-use Rattle.listing.proofs.Joined.{begun, turned, ended}
+use Rattle.text.specs.Texts.{joined}
+use Rattle.listing.specs.Lines.{quotientLine, tripleLine, quotientLines}
+use Rattle.text.proofs.Joined.{begun, turned, ended}
 use Rattle.listing.proofs.derivatives.lines.Statement.{statement}
 use Rattle.listing.proofs.derivatives.lines.Tie as tie
 

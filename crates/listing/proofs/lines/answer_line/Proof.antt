@@ -5,7 +5,8 @@ use mathlib.Core.List.{[], _∷_, _++_}
 use Rattle.text.proofs.Pieces.{then, said}
 use Rattle.sums.specs.Answers.{valuesOf}
 use Rattle.sums.specs.declared.Answer.{Answer}
-use Rattle.listing.specs.Lines.{blank, verdictOf, markByte, valueColumns, answerLine}
+use Rattle.text.specs.Texts.{blank}
+use Rattle.listing.specs.Lines.{verdictOf, markByte, valueColumns, answerLine}
 use borrow.Author.Needs.{needs}
 use Rattle.listing.proofs.lines.answer_line.Statement.{statement}
 use Rattle.listing.proofs.lines.answer_line.Tie as tie

@@ -5,9 +5,9 @@ use mathlib.Core.Path.{ap}
 use native.Mathlib.Omega.{arith}
 use Rattle.text.specs.Room.{Written}
 use Rattle.text.proofs.Pieces.{said, kept}
-use Rattle.listing.specs.Lines.{joined}
+use Rattle.text.specs.Texts.{joined}
 use Rattle.listing.specs.Listings.{rowLine, lineAt}
-use Rattle.listing.proofs.Joined.{begun, turned, ended}
+use Rattle.text.proofs.Joined.{begun, turned, ended}
 use Rattle.listing.proofs.lines.lines.Statement.{statement}
 use Rattle.listing.proofs.lines.lines.Tie as tie
 

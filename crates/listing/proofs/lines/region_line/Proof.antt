@@ -2,7 +2,8 @@
 use mathlib.Core.Path.{ap}
 use Rattle.text.proofs.Pieces.{said}
 use Rattle.sums.specs.declared.Answer.{Answer}
-use Rattle.listing.specs.Lines.{newline, verdictOf}
+use Rattle.text.specs.Texts.{newline}
+use Rattle.listing.specs.Lines.{verdictOf}
 use borrow.Author.Needs.{needs}
 use Rattle.listing.proofs.lines.region_line.Statement.{statement}
 use Rattle.listing.proofs.lines.region_line.Tie as tie

@@ -1,12 +1,12 @@
--- Texts written one behind the other by a loop: the one law of the loops of this crate. Assumes nothing.
+-- Texts written one behind the other by a loop: the one law of the loops that write. Assumes nothing.
 use Prim.Native.Nat.{ℕ, _+_, _≤_}
 use mathlib.Core.Path.{_≡_, sym, ap}
 use mathlib.Core.List.{List, _++_}
 use native.Mathlib.Nat.{le-antisymm}
 use native.Mathlib.Numerals.{add-one}
 use Rattle.text.specs.Room.{Written}
 use Rattle.text.proofs.Pieces.{none, then, said}
-use Rattle.listing.specs.Lines.{joined}
+use Rattle.text.specs.Texts.{joined}
 
 -- before the loop
 pub begun : (text : ℕ → List ℕ) (o : List ℕ) (at : ℕ) → Written o at (joined text 0) o at

@@ -1,0 +1,23 @@
+-- `sheet::words::word` meets its contract: its test is the definition's own. Assumes nothing.
+use borrow.Author.Tests.{lt-ltb, le-ltb}
+use Rattle.sheet.specs.Words.{wordOf}
+use borrow.Author.Needs.{needs}
+use Rattle.sheet.proofs.words.word.Statement.{statement}
+use Rattle.sheet.proofs.words.word.Tie as tie
+
+mul-u64-at : tie.Need-mul-u64-at
+mul-u64-at c = search needs
+
+u64-at-requires : tie.Need-u64-at-requires
+u64-at-requires c κs = search needs
+
+returns : tie.Need-returns
+unfolding wordOf
+returns c = simp (lt-ltb _ _ (c .before .if1 .taken)) (cc)
+
+returns-2 : tie.Need-returns-2
+unfolding wordOf
+returns-2 c = simp (le-ltb _ _ (c .if1 .left))
+
+pub word-spec : {M : Type 1} → statement M
+word-spec = tie.close (tie.spec mul-u64-at u64-at-requires returns returns-2)
