@@ -1,28 +1,150 @@
-//! Standard input for each program, made anew from a seed. Equal seeds and counts give
-//! equal bytes.
+//! Standard input for each program, made anew from a seed. Equal seeds, sizes and
+//! manners give equal bytes.
 
+mod damage;
 mod numbers;
 mod papers;
 mod points;
 mod random;
 mod runs;
 
+use crate::outputs::most_bytes;
 use crate::Program;
+use random::Random;
 
-/// Input for `program`: `count` is the number of random records (`arithmetic`), of
-/// rows of a whole sheet (`regions`, `answers`, `quotients`) or of desk calls
-/// (`replay`). The program `check_values` reads nothing.
-pub fn of(program: Program, seed: u64, count: usize) -> Vec<u8> {
-    match program {
-        Program::Arithmetic => numbers::records(seed, count),
-        Program::CheckValues => Vec::new(),
-        Program::Regions | Program::Answers => papers::queries(seed, count),
-        Program::Quotients => papers::triples(seed, count),
-        Program::Replay => runs::records(seed, count),
+/// How an input stands to what its program asks for.
+#[derive(Clone, Copy, Debug, PartialEq, Eq)]
+pub enum Manner {
+    /// As the program asks, whatever numbers it holds.
+    Whole,
+    /// Whole, or with something in it changed, missing or added.
+    Damaged,
+    Empty,
+    /// Ended before its last byte.
+    Cut,
+    /// Longer than the program takes.
+    Oversized,
+    /// Bytes without any meaning.
+    Random,
+}
+
+impl Manner {
+    pub fn named(name: &str) -> Option<Manner> {
+        match name {
+            "whole" => Some(Manner::Whole),
+            "damaged" => Some(Manner::Damaged),
+            "empty" => Some(Manner::Empty),
+            "cut" => Some(Manner::Cut),
+            "oversized" => Some(Manner::Oversized),
+            "random" => Some(Manner::Random),
+            _ => None,
+        }
     }
 }
 
-/// A sheet of up to `count` rows, whole or damaged, for any program that reads sheets.
-pub fn damaged_sheet(seed: u64, count: usize) -> Vec<u8> {
-    papers::damaged(seed, count)
+/// Input for `program`: `count` is the number of random records (`arithmetic`), of
+/// rows of a sheet (`regions`, `answers`, `quotients`; of a damaged one the most) or of
+/// desk calls (`replay`). The programs `check_values` and `plant` read nothing.
+pub fn of(program: Program, seed: u64, count: usize, manner: Manner) -> Vec<u8> {
+    let mut random = Random::new(!seed);
+    match manner {
+        _ if most_bytes(program) == 0 => Vec::new(),
+        Manner::Whole => whole(program, seed, count),
+        Manner::Damaged => damaged(program, seed, count, &mut random),
+        Manner::Empty => Vec::new(),
+        Manner::Cut => damage::cut(whole(program, seed, count), &mut random),
+        Manner::Oversized => oversized(program, seed, count, &mut random),
+        Manner::Random => damage::meaningless(most_bytes(program), &mut random),
+    }
+}
+
+fn whole(program: Program, seed: u64, count: usize) -> Vec<u8> {
+    match program {
+        Program::Arithmetic => numbers::records(seed, count),
+        Program::Regions | Program::Answers => papers::queries(seed, count),
+        Program::Quotients => papers::triples(seed, count),
+        Program::Replay => runs::records(seed, count),
+        Program::CheckValues | Program::Plant => Vec::new(),
+    }
+}
+
+fn damaged(program: Program, seed: u64, count: usize, random: &mut Random) -> Vec<u8> {
+    match program {
+        Program::Regions | Program::Answers | Program::Quotients => {
+            let triples = matches!(program, Program::Quotients);
+            damage::sheet(papers::small(seed, count, triples), random)
+        }
+        _ => damage::words(whole(program, seed, count), random),
+    }
+}
+
+fn oversized(program: Program, seed: u64, count: usize, random: &mut Random) -> Vec<u8> {
+    let most = most_bytes(program);
+    match program {
+        Program::Replay => damage::longer(runs::past_the_end(seed), most, random),
+        _ => damage::longer(whole(program, seed, count), most, random),
+    }
+}
+
+#[cfg(test)]
+mod tests {
+    use super::*;
+    use crate::outputs;
+
+    const PROGRAMS: [Program; 5] = [
+        Program::Arithmetic,
+        Program::Regions,
+        Program::Answers,
+        Program::Quotients,
+        Program::Replay,
+    ];
+
+    #[test]
+    fn manners_are_what_they_say() {
+        for program in PROGRAMS {
+            let most = most_bytes(program);
+            for seed in 1..9 {
+                let of = |manner| of(program, seed, 20, manner);
+                assert_eq!(of(Manner::Whole), whole(program, seed, 20));
+                assert!(of(Manner::Whole).len() <= most);
+                assert!(of(Manner::Empty).is_empty());
+                assert!(whole(program, seed, 20).starts_with(&of(Manner::Cut)));
+                assert!(of(Manner::Cut).len() < of(Manner::Whole).len());
+                assert!(of(Manner::Oversized).len() > most);
+            }
+        }
+    }
+
+    #[test]
+    fn an_input_one_byte_too_long_is_among_the_oversized() {
+        for program in PROGRAMS {
+            let lengths = (1..9).map(|seed| of(program, seed, 20, Manner::Oversized).len());
+            assert!(lengths.min() == Some(most_bytes(program) + 1));
+        }
+    }
+
+    /// Every program ends with a line, whatever it is given.
+    #[test]
+    fn every_input_has_an_output_that_ends_in_a_line() {
+        let manners =
+            [Manner::Damaged, Manner::Empty, Manner::Cut, Manner::Oversized, Manner::Random];
+        for program in PROGRAMS {
+            for (manner, seed) in
+                manners.into_iter().flat_map(|manner| (1..9).map(move |seed| (manner, seed)))
+            {
+                let text = outputs::of(program, &of(program, seed, 20, manner));
+                assert!(text.ends_with('\n') && !text.contains("\n\n"));
+            }
+        }
+    }
+
+    #[test]
+    fn oversized_runs_and_sheets_end_as_such() {
+        for seed in 1..5 {
+            let text = |program| outputs::of(program, &of(program, seed, 20, Manner::Oversized));
+            assert!(text(Program::Replay).ends_with(" bad record\n"));
+            assert_eq!(text(Program::Answers), "refused 23\n");
+            assert_eq!(text(Program::Arithmetic).lines().count(), 4097);
+        }
+    }
 }

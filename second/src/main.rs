@@ -1,10 +1,11 @@
 //! The independent second program. It knows the documents and none of the proved
 //! code, makes inputs for each program and says what each program must print.
 //!
-//!     second inputs NAME SEED COUNT > file
+//!     second inputs NAME SEED COUNT [MANNER] > file
 //!     second outputs NAME < file
 //!
-//! NAME is a program's; `inputs damaged SEED COUNT` makes a whole or damaged sheet.
+//! NAME is a program's. MANNER is whole (if none is given), damaged, empty, cut,
+//! oversized or random.
 
 // Printed decimals stay as they are printed.
 #![allow(clippy::approx_constant, clippy::excessive_precision)]
@@ -23,11 +24,15 @@ mod sheets;
 mod sums;
 mod tables;
 
+use inputs::Manner;
 use std::env;
 use std::io::{self, Read, Write};
 use std::process::ExitCode;
 
-const USAGE: &str = "usage: second inputs NAME SEED COUNT\n       second outputs NAME";
+const USAGE: &str = "usage: second inputs NAME SEED COUNT [MANNER]
+       second outputs NAME
+names: arithmetic check_values regions answers quotients replay plant
+manners: whole damaged empty cut oversized random";
 
 /// The programs that are compared, by the names they are built under.
 #[derive(Clone, Copy)]
@@ -38,6 +43,7 @@ pub enum Program {
     Answers,
     Quotients,
     Replay,
+    Plant,
 }
 
 impl Program {
@@ -49,8 +55,13 @@ impl Program {
             "answers" => Some(Program::Answers),
             "quotients" => Some(Program::Quotients),
             "replay" => Some(Program::Replay),
+            "plant" => Some(Program::Plant),
             _ => None,
         }
+    }
+
+    fn reads_input(self) -> bool {
+        !matches!(self, Program::CheckValues | Program::Plant)
     }
 }
 
@@ -73,20 +84,20 @@ fn main() -> ExitCode {
 /// The bytes asked for, or nothing if the words are not a known command.
 fn answer(words: &[&str]) -> Option<io::Result<Vec<u8>>> {
     match words {
-        ["inputs", name, seed, count] => {
-            let (seed, count) = (seed.parse().ok()?, count.parse().ok()?);
-            let bytes = match *name {
-                "damaged" => inputs::damaged_sheet(seed, count),
-                _ => inputs::of(Program::named(name)?, seed, count),
-            };
-            Some(Ok(bytes))
-        }
+        ["inputs", name, seed, count] => made(name, seed, count, "whole"),
+        ["inputs", name, seed, count, manner] => made(name, seed, count, manner),
         ["outputs", name] => {
             let program = Program::named(name)?;
-            Some(standard_input().map(|input| outputs::of(program, &input).into_bytes()))
+            let input = if program.reads_input() { standard_input() } else { Ok(Vec::new()) };
+            Some(input.map(|input| outputs::of(program, &input).into_bytes()))
         }
         _ => None,
     }
+}
+
+fn made(name: &str, seed: &str, count: &str, manner: &str) -> Option<io::Result<Vec<u8>>> {
+    let (seed, count) = (seed.parse().ok()?, count.parse().ok()?);
+    Some(Ok(inputs::of(Program::named(name)?, seed, count, Manner::named(manner)?)))
 }
 
 fn standard_input() -> io::Result<Vec<u8>> {

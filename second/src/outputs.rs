@@ -3,11 +3,12 @@
 mod check_values;
 mod listings;
 mod numbers;
+mod plant;
 mod replay;
 
 use crate::Program;
 
-pub use replay::{LIMIT as REPLAY_LIMIT, MOST_TURNS};
+pub use replay::MOST_TURNS;
 
 /// The text that `program` must print.
 pub fn of(program: Program, input: &[u8]) -> String {
@@ -18,6 +19,17 @@ pub fn of(program: Program, input: &[u8]) -> String {
         Program::Answers => listings::answers(input),
         Program::Quotients => listings::quotients(input),
         Program::Replay => replay::listing(input),
+        Program::Plant => plant::listing(),
+    }
+}
+
+/// The most bytes of standard input that `program` takes.
+pub fn most_bytes(program: Program) -> usize {
+    match program {
+        Program::Arithmetic => numbers::LIMIT,
+        Program::Regions | Program::Answers | Program::Quotients => listings::LONGEST,
+        Program::Replay => replay::LIMIT,
+        Program::CheckValues | Program::Plant => 0,
     }
 }
 

@@ -2,6 +2,7 @@
 //! the bits of x and an exponent k in the low byte of the second.
 
 use super::random::Random;
+use crate::arithmetic::power;
 
 /// Exponents tried with every special number.
 const EXPONENTS: [i8; 10] = [-128, -41, -3, -1, 0, 1, 2, 17, 58, 127];
@@ -52,8 +53,11 @@ pub fn records(seed: u64, count: usize) -> Vec<u8> {
         }
     }
     for _ in 0..count {
-        let bits = random_bits(&mut random);
-        append(&mut bytes, bits, random.bits());
+        let (x, k) = match random.below(8) {
+            0 => near_the_end_of_a_power(&mut random),
+            _ => (number(&mut random), random.bits()),
+        };
+        append(&mut bytes, x.to_bits(), k);
     }
     bytes
 }
@@ -72,10 +76,11 @@ fn special_bits() -> Vec<u64> {
     bits
 }
 
-/// Any bits, a number near 1 whose powers stay finite, a square and its neighbours,
-/// a power of two and its neighbours, a subnormal, or a number of everyday size.
-fn random_bits(random: &mut Random) -> u64 {
-    let x = match random.below(6) {
+/// Any bits; a number near 1 whose powers stay finite; a square, a power of two or one and
+/// a half times a power of two, each with its neighbours; a number whose root is hard to
+/// round; a subnormal; or a number of everyday size.
+fn number(random: &mut Random) -> f64 {
+    match random.below(8) {
         0 => random.any(),
         1 => random.between(0.7, 1.6),
         2 => {
@@ -86,8 +91,87 @@ fn random_bits(random: &mut Random) -> u64 {
             let exponent = 1 + random.below(2046) as u64;
             random.next_to(f64::from_bits(exponent << 52))
         }
-        4 => f64::from_bits(random.bits() >> (12 + random.below(52))),
+        4 => {
+            let exponent = 1 + random.below(2046) as u64;
+            random.next_to(f64::from_bits(exponent << 52 | 1 << 51))
+        }
+        5 => square_of_a_middle(random),
+        6 => f64::from_bits(random.bits() >> (12 + random.below(52))),
         _ => random.log_between(1e-6, 1e6),
-    };
-    x.to_bits()
+    }
+}
+
+/// A number whose root is all but the middle between two f64s: m² − c for a small c and an
+/// odd m of 54 binary digits such that m² − c has 53 digits and then zeros, times a power
+/// of four.
+fn square_of_a_middle(random: &mut Random) -> f64 {
+    let small = random.bits() as i64 >> (24 + random.below(40));
+    let c = 8 * i128::from(small) + 1;
+    let mut m: i128 = 1;
+    for digit in 3..55 {
+        // Here 2^digit divides m² − c; adding half of that to m adds 2^digit to m².
+        if (m * m - c) >> digit & 1 == 1 {
+            m += 1 << (digit - 1);
+        }
+    }
+    let m = if m < 1 << 53 { (1 << 54) - m } else { m };
+    let exponent = 1023 - 800 + 2 * random.below(800) as u64;
+    (m * m - c) as f64 * f64::from_bits(exponent << 52)
+}
+
+/// A number and an exponent whose power is about to overflow, to lose digits or to vanish.
+fn near_the_end_of_a_power(random: &mut Random) -> (f64, u64) {
+    let k = 2 + random.below(126) as i32;
+    let k = random.pick(&[k, -k]);
+    let end = random.pick(&[f64::MAX, f64::MIN_POSITIVE, 5e-324]);
+    let (mut low, mut high) = (5e-324_f64.to_bits(), f64::MAX.to_bits());
+    while low + 1 < high {
+        let middle = low.midpoint(high);
+        if (power(f64::from_bits(middle), k) < end) == (k > 0) {
+            low = middle;
+        } else {
+            high = middle;
+        }
+    }
+    let x = random.next_to(f64::from_bits(low));
+    (random.pick(&[x, x, -x]), k as u8 as u64)
+}
+
+#[cfg(test)]
+mod tests {
+    use super::*;
+    use crate::arithmetic::root;
+
+    #[test]
+    fn every_record_of_a_whole_input_is_looked_at() {
+        assert!(records(1, 3000).len() <= 65_536);
+        assert_eq!(records(1, 3000).len() % 16, 0);
+    }
+
+    #[test]
+    fn roots_of_squares_of_middles_are_half_a_step_off() {
+        let mut random = Random::new(5);
+        for _ in 0..200 {
+            let x = square_of_a_middle(&mut random);
+            let found = root(x);
+            let step = found.next_up() - found;
+            let rest = (-found).mul_add(found, x).abs();
+            assert!(x.is_normal());
+            assert!((rest / (found * step) - 1.0).abs() < 1e-3, "{x:e}");
+        }
+    }
+
+    #[test]
+    fn powers_end_next_to_the_number_found() {
+        let mut random = Random::new(6);
+        let mut ends = [false; 3];
+        for _ in 0..400 {
+            let (x, k) = near_the_end_of_a_power(&mut random);
+            let powers = [x.next_down(), x, x.next_up()].map(|x| power(x, k as u8 as i8 as i32));
+            ends[0] |= powers.iter().any(|x| x.is_infinite());
+            ends[1] |= powers.iter().any(|x| x.is_subnormal());
+            ends[2] |= powers.contains(&0.0);
+        }
+        assert_eq!(ends, [true; 3]);
+    }
 }

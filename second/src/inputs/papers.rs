@@ -1,41 +1,50 @@
-//! Sheets of queries: whole ones for `regions`, `answers` and `quotients`, and
-//! damaged or whole ones for any of the three.
+//! Sheets of queries for `regions`, `answers` and `quotients`.
 
 use super::points::{any, ties, Query};
 use super::random::Random;
-use crate::sheets::{trailer, write, NOTE, ROW, ROWS, TRAILER};
+use crate::sheets::{write, NOTE, ROWS, TRAILER};
 
-/// A sheet of `count` queries, at most 1,000, with some note. A quarter of the rows are ties; sheets
-/// of consecutive seeds go through all of them.
+/// A sheet of `count` queries, at most 1,000, with some note. A quarter of the rows are
+/// ties; sheets of consecutive seeds go through all of them.
 pub fn queries(seed: u64, count: usize) -> Vec<u8> {
     let mut random = Random::new(seed);
     let note = note(&mut random);
-    sheet(&note, &rows(seed, count, &mut random))
+    sheet(&note, &rows(seed, count, count / 4, &mut random))
 }
 
-/// A sheet of `count` queries whose note holds 32 triples of property numbers. Sixteen
-/// consecutive seeds go through all 512, a few of them made unknown.
+/// A sheet of `count` queries, half of them ties, whose note holds 32 triples of property
+/// numbers. Sixteen consecutive seeds go through all 512, a few of them made unknown.
 pub fn triples(seed: u64, count: usize) -> Vec<u8> {
     let mut random = Random::new(seed);
-    let first = seed.wrapping_mul(32);
+    let note = numbered(seed.wrapping_mul(32), 32, &mut random);
+    sheet(&note, &rows(seed, count, count / 2, &mut random))
+}
+
+/// The `count` triples of property numbers from the one of index `first` on, a few of
+/// them made unknown.
+fn numbered(first: u64, count: usize, random: &mut Random) -> Vec<u8> {
     let mut note = Vec::new();
-    for index in (0..32).map(|step| first.wrapping_add(step)) {
+    for index in (0..count as u64).map(|step| first.wrapping_add(step)) {
         let mut triple = [index / 64, index / 8, index].map(|digits| (digits % 8) as u8 + 1);
         if random.below(12) == 0 {
             triple[random.below(3)] = random.pick(&[0, 9, 10, 128, 255]);
         }
         note.extend(triple);
     }
-    sheet(&note, &rows(seed, count, &mut random))
+    note
 }
 
-/// A sheet of up to `count` queries, whole or damaged in some way.
-pub fn damaged(seed: u64, count: usize) -> Vec<u8> {
+/// A whole sheet of up to `count` queries and a note of a few triples or of any bytes.
+pub fn small(seed: u64, count: usize, triples: bool) -> Vec<u8> {
     let mut random = Random::new(seed);
-    let note = note(&mut random);
+    let mut note = note(&mut random);
+    if triples {
+        note = numbered(seed, random.below(14), &mut random);
+        let more = random.pick(&[0, 0, 0, 1, 2]);
+        note.extend(random.bytes(more));
+    }
     let count = random.below(count + 1);
-    let whole = sheet(&note, &rows(seed, count, &mut random));
-    damage(whole, &mut random)
+    sheet(&note, &rows(seed, count, count / 4, &mut random))
 }
 
 fn sheet(note: &[u8], rows: &[u8]) -> Vec<u8> {
@@ -52,16 +61,17 @@ fn note(random: &mut Random) -> Vec<u8> {
         3 => random.below(NOTE),
         _ => random.below(40),
     };
-    (0..length).map(|_| random.bits() as u8).collect()
+    random.bytes(length)
 }
 
-fn rows(seed: u64, count: usize, random: &mut Random) -> Vec<u8> {
+/// Rows of `count` queries, the first `tied` of them ties that go on where those of the
+/// seed before ended.
+fn rows(seed: u64, count: usize, tied: usize, random: &mut Random) -> Vec<u8> {
     let ties = ties();
-    let share = count / 4;
-    let first = (seed % ties.len() as u64) as usize * share;
+    let first = (seed % ties.len() as u64) as usize * tied;
     let mut bytes = Vec::new();
     for index in 0..count.min(ROWS) {
-        let query = if index < share { ties[(first + index) % ties.len()] } else { any(random) };
+        let query = if index < tied { ties[(first + index) % ties.len()] } else { any(random) };
         append(&mut bytes, query);
     }
     bytes
@@ -70,73 +80,6 @@ fn rows(seed: u64, count: usize, random: &mut Random) -> Vec<u8> {
 fn append(bytes: &mut Vec<u8>, (kind, first, second): Query) {
     for word in [kind, first.to_bits(), second.to_bits()] {
         bytes.extend(word.to_le_bytes());
-    }
-}
-
-/// Leaves a sheet whole or damages it.
-fn damage(mut sheet: Vec<u8>, random: &mut Random) -> Vec<u8> {
-    match random.below(10) {
-        0 | 1 => sheet,
-        2 => {
-            sheet.truncate(random.below(sheet.len()));
-            sheet
-        }
-        3 => {
-            let at = random.below(sheet.len());
-            sheet[at] ^= 1 << random.below(8);
-            sheet
-        }
-        4 | 5 => with_trailer_word(sheet, random),
-        6 => with_kind(sheet, random),
-        7 => longer(sheet, random),
-        8 => (0..random.below(64)).map(|_| random.bits() as u8).collect(),
-        _ => vec![random.pick(&[0, 0xff]); random.below(18)],
-    }
-}
-
-/// Puts a telling number into one of the trailer's four words.
-fn with_trailer_word(mut sheet: Vec<u8>, random: &mut Random) -> Vec<u8> {
-    let at = sheet.len() - TRAILER + 4 * random.below(4);
-    let mut word = [0; 4];
-    word.copy_from_slice(&sheet[at..at + 4]);
-    let held = u32::from_le_bytes(word);
-    let put = match random.below(6) {
-        0 => held.wrapping_add(1),
-        1 => held.wrapping_sub(1),
-        2 => held.wrapping_add(24),
-        3 => random.pick(&[0, 1, 2, 24, 1000, 1001, 24_000, 24_024]),
-        4 => u32::MAX,
-        _ => random.bits() as u32,
-    };
-    sheet[at..at + 4].copy_from_slice(&put.to_le_bytes());
-    sheet
-}
-
-/// Puts a telling number into the kind of one row; without rows, leaves all.
-fn with_kind(mut sheet: Vec<u8>, random: &mut Random) -> Vec<u8> {
-    let end = sheet.len() - TRAILER;
-    let mut word = [0; 4];
-    word.copy_from_slice(&sheet[end..end + 4]);
-    let count = u32::from_le_bytes(word) as usize;
-    if count > 0 {
-        let at = end - ROW * (1 + random.below(count));
-        let kind = random.pick(&[0, 1, 4, 5, 256, 1 << 32 | 1, 1 << 63, u64::MAX]);
-        sheet[at..at + 8].copy_from_slice(&kind.to_le_bytes());
-    }
-    sheet
-}
-
-/// Lengthens a sheet behind, before (the note grows), or past every limit.
-fn longer(sheet: Vec<u8>, random: &mut Random) -> Vec<u8> {
-    let more = random.pick(&[1, 8, 24, NOTE]);
-    match random.below(4) {
-        0 => [sheet, vec![0; more]].concat(),
-        1 => [vec![0; more], sheet].concat(),
-        2 => [vec![0; NOTE + ROWS * ROW], sheet].concat(),
-        _ => {
-            let rows = [1_u64, 0, 0].map(u64::to_le_bytes).concat().repeat(ROWS + 1);
-            [&rows[..], &trailer(rows.len())].concat()
-        }
     }
 }
 
@@ -167,14 +110,5 @@ mod tests {
             seen.extend(rows.rows().map(|query| (query.0, query.1.to_bits())));
         }
         assert!(all.is_subset(&seen));
-    }
-
-    #[test]
-    fn damaged_sheets_reach_every_refusal() {
-        let mut refusals = BTreeSet::new();
-        for seed in 0..300 {
-            refusals.insert(read(&damaged(seed, 20)).map_or_else(|refusal| refusal.0, |_| 0));
-        }
-        assert_eq!(refusals, BTreeSet::from([0, 20, 21, 22, 23, 24]));
     }
 }

@@ -2,6 +2,7 @@
 //! spread over the regions, and numbers that are no points at all.
 
 use super::random::Random;
+use crate::answers::{answer, Answer};
 use crate::backward::S_2BC;
 use crate::basic::{
     b23_pressure, b23_temperature, b2ab_enthalpy, b2bc_pressure, saturation_pressure,
@@ -15,15 +16,20 @@ use crate::regions::{
 /// A query: its kind and its two numbers.
 pub type Query = (u64, f64, f64);
 
-/// Numbers that no range holds or that stand at an end of the f64s.
-const STRANGE: [f64; 12] = [
+/// Numbers that no range holds or that stand at an end of the f64s; NaNs quiet and
+/// signalling, of both signs.
+const STRANGE: [f64; 16] = [
     f64::NAN,
+    f64::from_bits(0xfff8_0000_0000_0000),
+    f64::from_bits(0x7ff0_0000_0000_0001),
+    f64::from_bits(0xffff_ffff_ffff_ffff),
     f64::INFINITY,
     f64::NEG_INFINITY,
     0.0,
     -0.0,
     5e-324,
     -5e-324,
+    f64::from_bits(0x000f_ffff_ffff_ffff),
     f64::MIN_POSITIVE,
     f64::MAX,
     f64::MIN,
@@ -137,24 +143,96 @@ fn corners() -> Vec<(Region, f64, f64)> {
     corners
 }
 
+/// A strange number beside a sound one, and strange numbers in both places.
 fn strange() -> Vec<Query> {
     let mut queries = Vec::new();
     for (kind, first, second) in [(1, 3.0, 300.0), (2, 3.0, 500.0), (3, 3.0, 0.5), (4, 500.0, 1.5)]
     {
         queries.extend(STRANGE.map(|x| (kind, x, second)));
-        queries.extend(STRANGE.map(|x| (kind, first, x)));
+        queries.extend(STRANGE.map(|y| (kind, first, y)));
+        queries.extend(STRANGE.into_iter().flat_map(|x| STRANGE.map(|y| (kind, x, y))));
     }
-    queries.extend(STRANGE.map(|x| (4, x, x)));
     queries
 }
 
-/// A query of any kind.
+/// A query of any kind; one in 32 lies where the outcome changes.
 pub fn any(random: &mut Random) -> Query {
+    match random.below(32) {
+        0 => changing(random),
+        _ => spread(random),
+    }
+}
+
+fn spread(random: &mut Random) -> Query {
     match 1 + random.below(4) as u64 {
         1 => pt(random),
         4 => hs(random),
         kind => py(random, kind),
     }
+}
+
+/// A query next to one with another region, mark or refusal, found by halving between two
+/// queries that differ in one number; the first of them if their outcomes are the same.
+fn changing(random: &mut Random) -> Query {
+    let from = spread(random);
+    let (kind, first, second) = from;
+    let (_, other_first, other_second) = match kind {
+        1 => pt(random),
+        4 => {
+            let far = random.pick(&[1.0, 100.0]);
+            let off = random.between(-far, far);
+            (4, first + off, second + 0.002 * off)
+        }
+        _ => py(random, kind),
+    };
+    if random.below(2) == 0 {
+        (kind, change(first, other_first, |x| outcome((kind, x, second)), random), second)
+    } else {
+        (kind, first, change(second, other_second, |y| outcome((kind, first, y)), random))
+    }
+}
+
+/// The refusal, or region and mark.
+fn outcome((kind, first, second): Query) -> (u8, u64, bool) {
+    match answer(kind, first, second) {
+        Ok(Answer::Single { state, verified }) => (0, state.region.number(), verified),
+        Ok(Answer::Wet { verified, .. }) => (0, 4, verified),
+        Err(refusal) => (refusal.0, 0, false),
+    }
+}
+
+/// One of two neighbouring f64s from `low` to `high` between which the outcome changes;
+/// `low` if its outcome is that of `high`.
+fn change<T: PartialEq>(
+    low: f64,
+    high: f64,
+    outcome: impl Fn(f64) -> T,
+    random: &mut Random,
+) -> f64 {
+    let at_low = outcome(low);
+    let (mut low, mut high) = (place(low), place(high));
+    if at_low == outcome(at_place(high)) {
+        return at_place(low);
+    }
+    while high.abs_diff(low) > 1 {
+        let middle = low.midpoint(high);
+        if outcome(at_place(middle)) == at_low {
+            low = middle;
+        } else {
+            high = middle;
+        }
+    }
+    at_place(random.pick(&[low, high]))
+}
+
+/// The place of a number among all f64s in their order: -0 is at -1, 0 at 0.
+fn place(x: f64) -> i64 {
+    let bits = x.to_bits() as i64;
+    bits ^ (bits >> 63 & i64::MAX)
+}
+
+fn at_place(place: i64) -> f64 {
+    f64::from_bits((place ^ (place >> 63 & i64::MAX)) as u64)
 }
 
 /// A (p,T) query.
@@ -224,10 +302,15 @@ fn near_2bc(random: &mut Random, quantity: Quantity, p: f64) -> f64 {
     random.pick(&[low, high])
 }
 
-/// An (h,s) query: a state's own, one a little off, or any two numbers.
+/// An (h,s) query: a state's own, one a little off, or numbers of any kind.
 fn hs(random: &mut Random) -> Query {
     match random.below(16) {
-        0 => (4, random.any(), random.any()),
+        0 => {
+            let (h, s) = state(random);
+            let numbers = [(random.any(), s), (h, random.any()), (random.any(), random.any())];
+            let (h, s) = random.pick(&numbers);
+            (4, h, s)
+        }
         1 => (4, random.between(-10.0, 4200.0), random.between(-0.1, 12.0)),
         2 => {
             let s = random.between(6.0, 7.9);
@@ -273,33 +356,27 @@ fn state(random: &mut Random) -> (f64, f64) {
 #[cfg(test)]
 mod tests {
     use super::*;
-    use crate::answers::{answer, Answer};
-    use std::collections::BTreeMap;
+    use std::collections::BTreeSet;
 
-    /// How often each kind of query ends in each region or refusal.
-    fn outcomes(queries: impl Iterator<Item = Query>) -> BTreeMap<(u64, String), usize> {
-        let mut outcomes = BTreeMap::new();
-        for (kind, first, second) in queries {
-            let outcome = match answer(kind, first, second) {
-                Ok(Answer::Single { state, .. }) => format!("region {}", state.region.number()),
-                Ok(Answer::Wet { .. }) => "wet".into(),
-                Err(refusal) => format!("refused {}", refusal.0),
-            };
-            *outcomes.entry((kind, outcome)).or_insert(0) += 1;
-        }
-        outcomes
+    /// Each kind with each region and refusal that queries of it end in.
+    fn outcomes(queries: impl Iterator<Item = Query>) -> BTreeSet<(u64, String)> {
+        let named = |query: Query| match outcome(query) {
+            (0, region, _) => (query.0, format!("region {region}")),
+            (refusal, _, _) => (query.0, format!("refused {refusal}")),
+        };
+        queries.map(named).collect()
     }
 
-    fn every_outcome(outcomes: &BTreeMap<(u64, String), usize>) {
+    fn every_outcome(outcomes: &BTreeSet<(u64, String)>) {
         let expected = [
             (1, "region 1, region 2, region 5, refused 1, refused 2, refused 3, refused 4, refused 5"),
-            (2, "region 1, region 2, wet, refused 1, refused 2, refused 5, refused 6"),
-            (3, "region 1, region 2, wet, refused 1, refused 2, refused 5, refused 6"),
+            (2, "region 1, region 2, region 4, refused 1, refused 2, refused 5, refused 6"),
+            (3, "region 1, region 2, region 4, refused 1, refused 2, refused 5, refused 6"),
             (4, "region 1, region 2, refused 1, refused 7"),
         ];
         for (kind, list) in expected {
             for outcome in list.split(", ") {
-                assert!(outcomes.contains_key(&(kind, outcome.into())), "{kind} {outcome}");
+                assert!(outcomes.contains(&(kind, outcome.into())), "{kind} {outcome}");
             }
         }
     }
@@ -309,5 +386,38 @@ mod tests {
         every_outcome(&outcomes(ties().into_iter()));
         let mut random = Random::new(7);
         every_outcome(&outcomes((0..4000).map(|_| any(&mut random))));
+    }
+
+    /// The outcomes of the four queries next to one in a single number.
+    fn next((kind, first, second): Query) -> [(u8, u64, bool); 4] {
+        let [below, _, above] = around(first).map(|x| outcome((kind, x, second)));
+        let [left, _, right] = around(second).map(|y| outcome((kind, first, y)));
+        [below, above, left, right]
+    }
+
+    #[test]
+    fn regions_refusals_and_marks_change_next_to_a_query() {
+        let mut random = Random::new(3);
+        let (mut changes, mut marks) = (0, BTreeSet::new());
+        for _ in 0..2000 {
+            let query = changing(&mut random);
+            let here = outcome(query);
+            let other = next(query).into_iter().filter(|&other| other != here);
+            changes += usize::from(other.clone().count() > 0);
+            let mark = other.filter(|other| (here.0, here.1) == (other.0, other.1));
+            marks.extend(mark.map(|(_, region, _)| (query.0, region)));
+        }
+        assert!(changes > 800, "{changes}");
+        assert_eq!(marks, BTreeSet::from([(2, 1), (2, 2), (3, 1), (3, 2), (4, 1), (4, 2)]));
+    }
+
+    #[test]
+    fn places_are_in_the_order_of_the_numbers() {
+        let numbers = [f64::NEG_INFINITY, -1.0, -5e-324, -0.0, 0.0, 5e-324, 1.0, f64::INFINITY];
+        assert!(numbers.map(place).is_sorted());
+        assert_eq!(numbers.map(|x| at_place(place(x)).to_bits()), numbers.map(f64::to_bits));
+        assert_eq!(place(1.0_f64.next_up()), place(1.0) + 1);
+        let sign = |x: f64| x > 0.0;
+        assert!([0.0, 5e-324].contains(&change(-3.0, 1e300, sign, &mut Random::new(0))));
     }
 }

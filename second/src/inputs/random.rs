@@ -22,6 +22,21 @@ impl Random {
         (self.bits() % limit as u64) as usize
     }
 
+    /// So many bytes.
+    pub fn bytes(&mut self, length: usize) -> Vec<u8> {
+        (0..length).map(|_| self.bits() as u8).collect()
+    }
+
+    /// Any bits, the bits of any number, or a whole number that is small or a power of two.
+    pub fn word(&mut self) -> u64 {
+        match self.below(4) {
+            0 => self.bits(),
+            1 => self.any().to_bits(),
+            2 => self.below(42) as u64,
+            _ => 1 << self.below(64),
+        }
+    }
+
     /// One of the given things.
     pub fn pick<T: Copy>(&mut self, things: &[T]) -> T {
         things[self.below(things.len())]

@@ -5,25 +5,66 @@ use super::points::py;
 use super::random::Random;
 use crate::basic::Region;
 use crate::desk::{bracket, Desk, Row, CALLERS, HALVINGS, MOST_TICKETS, ROWS};
-use crate::outputs::{MOST_TURNS, REPLAY_LIMIT};
+use crate::outputs::{most_bytes, MOST_TURNS};
+use crate::Program;
 
-/// A run of `count` records, fewer where the input would grow too long. Of five
-/// consecutive seeds one ends in a bad record; of three, one begins on a new desk, one
-/// on a sound desk given in words and one on an unsound one.
+/// Calls that fill a run to its last byte, beside three that set the desk: 3 · 2,672 +
+/// 1,438 · 40 = 65,536.
+const CALLS_BESIDE_THREE_DESKS: usize = 1438;
+
+/// A run of `count` records, fewer where the input would grow too long. The seed decides
+/// what is in it: of three consecutive ones, one begins on a new desk, one on a sound desk
+/// given in words and one on an unsound one; of five, one ends in a bad record; of eight,
+/// one holds any bits in its words; of 32, one is of the greatest length; of 60, one has
+/// nearly or exactly the most turns that a record may ask for.
 pub fn records(seed: u64, count: usize) -> Vec<u8> {
-    let mut run = Run { random: Random::new(seed), desk: Desk::new(), bytes: Vec::new() };
+    if seed % 32 == 17 {
+        return longest(seed);
+    }
+    let mut run = Run::new(seed);
     match seed % 3 {
         0 => {}
-        1 => run.set_desk(true),
-        _ => run.set_desk(false),
+        1 => run.set_sound_desk(),
+        _ => run.set_unsound_desk(),
     }
-    for _ in 0..count {
-        if run.bytes.len() + 3000 < REPLAY_LIMIT {
-            run.step();
+    for index in 0..count {
+        match seed % 8 {
+            _ if run.is_nearly_full() => break,
+            3 => run.any_bits(),
+            _ => run.step(),
+        }
+        if seed % 60 == 36 && index == count / 2 {
+            let turns = run.random.pick(&[MOST_TURNS, MOST_TURNS - 1, 65_536]);
+            run.call([2, 0, turns, 0, 0]);
         }
     }
     if seed % 5 == 4 {
         run.bad_record();
+    }
+    run.bytes
+}
+
+/// A run whose last record ends with the last byte that a run may have.
+fn longest(seed: u64) -> Vec<u8> {
+    let mut run = Run::new(seed);
+    for index in 0..CALLS_BESIDE_THREE_DESKS {
+        if index % 500 == 100 {
+            run.set_sound_desk();
+        }
+        run.one_call();
+    }
+    run.bytes
+}
+
+/// A run that goes on past the last byte that a run may have. For one seed in two a record
+/// ends there, otherwise one reaches past it.
+pub fn past_the_end(seed: u64) -> Vec<u8> {
+    let mut run = Run::new(seed);
+    if seed.is_multiple_of(2) {
+        run.bytes = longest(seed);
+    }
+    while run.bytes.len() <= most_bytes(Program::Replay) + 200 {
+        run.one_call();
     }
     run.bytes
 }
@@ -35,31 +76,59 @@ struct Run {
 }
 
 impl Run {
-    fn record(&mut self, words: [u64; 5]) {
-        self.words(&words);
+    fn new(seed: u64) -> Run {
+        Run { random: Random::new(seed), desk: Desk::new(), bytes: Vec::new() }
+    }
+
+    fn is_nearly_full(&self) -> bool {
+        self.bytes.len() + 3000 > most_bytes(Program::Replay)
     }
 
     fn words(&mut self, words: &[u64]) {
         self.bytes.extend(words.iter().flat_map(|word| word.to_le_bytes()));
     }
 
+    /// A record, and what it does to the desk.
+    fn call(&mut self, record: [u64; 5]) {
+        self.words(&record);
+        let [op, caller, a, b, c] = record;
+        match op {
+            1 => {
+                let _ = self.desk.post(caller, a, f64::from_bits(b), f64::from_bits(c));
+            }
+            2 => {
+                for _ in 0..a {
+                    let _ = self.desk.turn();
+                }
+            }
+            4 => {
+                let _ = self.desk.collect(caller, a);
+            }
+            5 => {
+                let _ = self.desk.withdraw(caller, a);
+            }
+            _ => {}
+        }
+    }
+
     /// One call; an unsound desk is soon exchanged.
     fn step(&mut self) {
-        if !self.desk.is_sound() && self.random.below(4) == 0 {
-            let sound = self.random.below(4) != 0;
-            return self.set_desk(sound);
+        let kept = if self.desk.is_sound() { 40 } else { 4 };
+        match (self.random.below(kept), self.random.below(4)) {
+            (0, 0) => self.set_unsound_desk(),
+            (0, _) => self.set_sound_desk(),
+            _ => self.one_call(),
         }
-        match self.random.below(40) {
+    }
+
+    fn one_call(&mut self) {
+        match self.random.below(39) {
             0..=13 => self.post(),
             14..=22 => self.turn(),
             23..=27 => self.peek(),
             28..=34 => self.collect(),
             35 | 36 => self.withdraw(),
-            37 | 38 => self.record([7, 0, 0, 0, 0]),
-            _ => {
-                let sound = self.random.below(4) != 0;
-                self.set_desk(sound);
-            }
+            _ => self.show(),
         }
     }
 
@@ -70,8 +139,7 @@ impl Run {
             _ => 2 + self.random.below(2) as u64,
         };
         let (_, p, y) = py(&mut self.random, if kind == 3 { 3 } else { 2 });
-        self.record([1, caller, kind, p.to_bits(), y.to_bits()]);
-        let _ = self.desk.post(caller, kind, p, y);
+        self.call([1, caller, kind, p.to_bits(), y.to_bits()]);
     }
 
     /// Mostly few turns, sometimes enough to make every job ready.
@@ -81,28 +149,52 @@ impl Run {
             1 | 2 => 160,
             _ => self.random.pick(&[0, 1, 1, 2, 3, 5, 13, 40]),
         };
-        self.record([2, 0, turns, 0, 0]);
-        for _ in 0..turns {
-            let _ = self.desk.turn();
-        }
+        let [caller, b, c] = self.unused();
+        self.call([2, caller, turns, b, c]);
     }
 
     fn peek(&mut self) {
         let (caller, ticket) = self.ticket(|_| true);
-        self.record([3, caller, ticket, 0, 0]);
+        let [_, b, c] = self.unused();
+        self.call([3, caller, ticket, b, c]);
     }
 
     fn collect(&mut self) {
         let ready = self.random.below(4) != 0;
         let (caller, ticket) = self.ticket(|row| !ready || row.halvings == HALVINGS);
-        self.record([4, caller, ticket, 0, 0]);
-        let _ = self.desk.collect(caller, ticket);
+        let [_, b, c] = self.unused();
+        self.call([4, caller, ticket, b, c]);
     }
 
     fn withdraw(&mut self) {
         let (caller, ticket) = self.ticket(|_| true);
-        self.record([5, caller, ticket, 0, 0]);
-        let _ = self.desk.withdraw(caller, ticket);
+        let [_, b, c] = self.unused();
+        self.call([5, caller, ticket, b, c]);
+    }
+
+    fn show(&mut self) {
+        let ([caller, b, c], a) = (self.unused(), self.random.pick(&[0, 1, u64::MAX]));
+        self.call([7, caller, a, b, c]);
+    }
+
+    /// Words that a record does not look at: zeros, or any bits.
+    fn unused(&mut self) -> [u64; 3] {
+        match self.random.below(2) {
+            0 => [0; 3],
+            _ => [(); 3].map(|()| self.random.word()),
+        }
+    }
+
+    /// A record with any bits in its words, or a desk, now and then one with any bits too.
+    fn any_bits(&mut self) {
+        let [caller, a, b, c] = [(); 4].map(|()| self.random.word());
+        let sound = self.desk.is_sound();
+        match self.random.below(8) as u64 {
+            0 if sound => self.set_desk(any_desk),
+            0 | 6 => self.set_sound_desk(),
+            2 => self.call([2, caller, a % 200, b, c]),
+            op => self.call([op, caller, a, b, c]),
+        }
     }
 
     fn caller(&mut self) -> u64 {
@@ -124,33 +216,45 @@ impl Run {
         }
     }
 
+    fn set_sound_desk(&mut self) {
+        self.set_desk(sound_desk);
+    }
+
+    fn set_unsound_desk(&mut self) {
+        self.set_desk(unsound_desk);
+    }
+
     /// A record that sets the desk, and the desk in words behind it.
-    fn set_desk(&mut self, sound: bool) {
-        self.desk = sound_desk(&mut self.random);
-        if !sound {
-            spoil(&mut self.desk, &mut self.random);
-        }
-        self.record([6, 0, 0, 0, 0]);
+    fn set_desk(&mut self, made: fn(&mut Random) -> Desk) {
+        self.desk = made(&mut self.random);
+        let ([caller, b, c], a) = (self.unused(), self.random.word());
+        self.words(&[6, caller, a, b, c]);
         self.words(&words_of(&self.desk));
     }
 
-    /// A record that ends the program.
+    /// A record that ends the program, and one behind it that is not looked at.
     fn bad_record(&mut self) {
-        match self.random.below(5) {
-            0 => self.record([8, 0, 0, 0, 0]),
-            1 => self.record([0, 0, 0, 0, 0]),
-            2 => self.record([2, 0, MOST_TURNS + 1, 0, 0]),
-            3 => {
+        match self.random.below(4) {
+            0 => {
+                let op = self.random.pick(&[0, 8, 1 << 32 | 1, u64::MAX]);
+                self.words(&[op, 0, 0, 0, 0]);
+            }
+            1 => {
+                let turns = self.random.pick(&[MOST_TURNS + 1, 1 << 32, u64::MAX]);
+                self.words(&[2, 0, turns, 0, 0]);
+            }
+            2 => {
                 let length = 1 + self.random.below(39);
-                self.bytes.extend(vec![7; length]);
+                return self.bytes.extend(vec![7; length]);
             }
             _ => {
                 let mut words = words_of(&self.desk);
-                words[9 + 10 * self.random.below(ROWS)] = 2;
-                self.record([6, 0, 0, 0, 0]);
+                words[9 + 10 * self.random.below(ROWS)] = self.random.pick(&[2, 256, u64::MAX]);
+                self.words(&[6, 0, 0, 0, 0]);
                 self.words(&words);
             }
         }
+        self.words(&[7, 0, 0, 0, 0]);
     }
 }
 
@@ -170,8 +274,8 @@ fn sound_desk(random: &mut Random) -> Desk {
     for caller in 0..CALLERS {
         let used = desk.rows.iter().filter(|row| row.filled && row.caller == caller as u64);
         let least = used.map(|row| row.ticket + 1).max().unwrap_or(0);
-        let more = random.pick(&[0, 0, 1, 5, MOST_TICKETS]);
-        desk.counts[caller] = (least + more).min(MOST_TICKETS);
+        let count = random.pick(&[0, least, least + 1, least + 5, MOST_TICKETS - 1, MOST_TICKETS]);
+        desk.counts[caller] = count.clamp(least, MOST_TICKETS);
     }
     desk
 }
@@ -184,7 +288,10 @@ fn open(desk: &Desk, caller: u64) -> usize {
 fn filled(random: &mut Random, caller: u64, index: u64) -> Row {
     let ticket = random.pick(&[index, 1000 + index, MOST_TICKETS - 1 - index]);
     let kind = 2 + random.below(2) as u64;
-    let (_, p, y) = py(random, kind);
+    let (_, p, y) = match random.below(12) {
+        0 => (kind, random.any(), random.any()),
+        _ => py(random, kind),
+    };
     let region = random.pick(&[Region::One, Region::Two]);
     let (lo, hi) = match random.below(6) {
         0 => (random.any(), random.any()),
@@ -212,6 +319,34 @@ fn junk(random: &mut Random) -> Row {
         halvings: random.below(50) as u64,
         lo: random.any(),
         hi: random.any(),
+    }
+}
+
+/// A desk that breaks one rule of a sound one.
+fn unsound_desk(random: &mut Random) -> Desk {
+    let mut desk = sound_desk(random);
+    spoil(&mut desk, random);
+    desk
+}
+
+/// A desk with any bits in every word but those that tell whether a row is filled.
+fn any_desk(random: &mut Random) -> Desk {
+    let row = |random: &mut Random| Row {
+        filled: random.below(2) == 0,
+        caller: random.word(),
+        ticket: random.word(),
+        kind: random.word(),
+        region: random.word(),
+        p: f64::from_bits(random.word()),
+        y: f64::from_bits(random.word()),
+        halvings: random.word(),
+        lo: f64::from_bits(random.word()),
+        hi: f64::from_bits(random.word()),
+    };
+    Desk {
+        pointer: random.word(),
+        counts: [(); CALLERS].map(|()| random.word()),
+        rows: [(); ROWS].map(|()| row(random)),
     }
 }
 
@@ -255,41 +390,69 @@ fn words_of(desk: &Desk) -> Vec<u64> {
 mod tests {
     use super::*;
     use crate::outputs;
-    use crate::Program;
     use std::collections::BTreeSet;
 
     #[test]
-    fn desks_are_sound_or_spoiled_as_asked() {
+    fn desks_are_sound_or_unsound_as_asked() {
         for seed in 0..500 {
-            let mut random = Random::new(seed);
-            let mut desk = sound_desk(&mut random);
+            let desk = sound_desk(&mut Random::new(seed));
             assert!(desk.is_sound(), "{seed}");
-            spoil(&mut desk, &mut random);
-            assert!(!desk.is_sound(), "{seed}");
             assert_eq!(words_of(&desk).len(), 329);
+            assert!(!unsound_desk(&mut Random::new(seed)).is_sound(), "{seed}");
         }
+    }
+
+    /// Each line of a run without its number and without what stands behind its refusal.
+    fn outcomes(run: &[u8]) -> Vec<String> {
+        let text = outputs::of(Program::Replay, run);
+        let lines = text.lines().filter(|line| !line.starts_with("row"));
+        lines.map(|line| line.split(' ').skip(1).take(2).collect::<Vec<_>>().join(" ")).collect()
     }
 
     #[test]
     fn runs_reach_every_outcome() {
-        let mut seen = BTreeSet::new();
-        for seed in 0..60 {
-            let text = outputs::of(Program::Replay, &records(seed, 60));
-            for line in text.lines().filter(|line| !line.starts_with("row")) {
-                let words: Vec<&str> = line.split(' ').skip(1).take(2).collect();
-                seen.insert(words.join(" "));
+        let seen: BTreeSet<String> =
+            (0..60).flat_map(|seed| outcomes(&records(seed, 60))).collect();
+        let expected = [
+            ("post", "0 1 2 5 6 8 9 10 13 15"),
+            ("turn", "0 15"),
+            ("peek", "0 9 11 15"),
+            ("collect", "0 9 11 12 15"),
+            ("withdraw", "0 9 11 15"),
+            ("bad", "record"),
+        ];
+        for (call, refusals) in expected {
+            for refusal in refusals.split(' ') {
+                assert!(seen.contains(&format!("{call} {refusal}")), "{call} {refusal}");
             }
         }
-        let posts = "0 1 2 5 6 8 9 10 13 15".split(' ').map(|number| format!("post {number}"));
-        let peeks = "0 9 11 15".split(' ').map(|number| format!("peek {number}"));
-        let collects = "0 9 11 12 15".split(' ').map(|number| format!("collect {number}"));
-        let withdraws = "0 9 11 15".split(' ').map(|number| format!("withdraw {number}"));
-        let turns = "0 15".split(' ').map(|number| format!("turn {number}"));
-        let others = ["desk", "bad record"].map(String::from);
-        for outcome in
-            posts.chain(peeks).chain(collects).chain(withdraws).chain(turns).chain(others)
-        {
-            assert!(seen.contains(&outcome), "{outcome}");
+        assert!(seen.contains("desk"));
+    }
+
+    #[test]
+    fn some_runs_have_the_greatest_length_and_are_played_to_the_end() {
+        let run = records(17, 60);
+        assert_eq!(run.len(), most_bytes(Program::Replay));
+        assert_eq!(outcomes(&run).len(), CALLS_BESIDE_THREE_DESKS + 3);
+        assert!(!outcomes(&run).contains(&"bad record".into()));
+    }
+
+    #[test]
+    fn runs_past_the_end_are_cut_at_a_record_or_within_one() {
+        for (seed, records) in [(2, 1441), (3, 1638)] {
+            let outcomes = outcomes(&past_the_end(seed));
+            assert_eq!(outcomes.len(), records + 1);
+            assert_eq!(outcomes[records], "bad record");
         }
+    }
+
+    #[test]
+    fn some_runs_have_very_many_turns() {
+        let words = |seed| -> Vec<u64> {
+            let run = records(seed, 60);
+            run.chunks_exact(8).map(|word| u64::from_le_bytes(word.try_into().unwrap())).collect()
+        };
+        let most = (0..4).flat_map(|round| words(36 + 60 * round));
+        assert!(most.filter(|&word| word == MOST_TURNS).count() > 0);
     }
 }

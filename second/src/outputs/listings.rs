@@ -9,7 +9,7 @@ use crate::refusals::{Refusal, LENGTHS};
 use crate::sheets::{read, Sheet, NOTE, ROW, ROWS, TRAILER};
 
 /// The longest sheet: the longest note, the most rows and the trailer.
-const LONGEST: usize = NOTE + ROWS * ROW + TRAILER;
+pub const LONGEST: usize = NOTE + ROWS * ROW + TRAILER;
 
 /// Row number, kind, refusal and region of each row.
 pub fn regions(input: &[u8]) -> String {

@@ -4,7 +4,7 @@ use super::hex;
 use crate::arithmetic::{fourth_root, logarithm, power, root};
 
 /// The most bytes of standard input that the program looks at.
-const LIMIT: usize = 65_536;
+pub const LIMIT: usize = 65_536;
 
 /// Header, then a line for each whole record of 16 bytes.
 pub fn listing(input: &[u8]) -> String {

@@ -1,11 +1,16 @@
 //! The listing of the program `replay`: a run of desk calls read as records of five
 //! little-endian words op, caller, a, b, c, and a line for what each call gave.
+//!
+//! A run has at most 65,536 bytes. One byte more is read, so that a longer input always
+//! ends with a bad record: a record that ends where a run may end leaves that byte
+//! behind it, and one that reaches further is cut short, records being whole words.
+//! The first record is read in any case, so the empty input is a bad record too.
 
 use super::hex;
 use crate::desk::{Collected, Desk, Peeked, Row, Turned, CALLERS, ROWS};
 use crate::refusals::Refusal;
 
-/// The most bytes of standard input that the program looks at.
+/// The most bytes of a run.
 pub const LIMIT: usize = 65_536;
 /// The most turns one record may ask for.
 pub const MOST_TURNS: u64 = 100_000;
@@ -13,21 +18,18 @@ pub const MOST_TURNS: u64 = 100_000;
 /// A record that cannot be taken.
 struct BadRecord;
 
-/// A line for each record, up to a bad one.
+/// A line for each record, up to the last byte or a bad record.
 pub fn listing(input: &[u8]) -> String {
-    let mut words = Words(&input[..input.len().min(LIMIT)]);
+    let mut words = Words(&input[..input.len().min(LIMIT + 1)]);
     let mut desk = Desk::new();
     let mut text = String::new();
     for number in 1.. {
-        if words.0.is_empty() {
+        let line = played(&mut desk, &mut words);
+        let ends = line.is_err() || words.0.is_empty();
+        let line = line.unwrap_or_else(|BadRecord| "bad record".into());
+        text.push_str(&format!("{number} {line}\n"));
+        if ends {
             break;
-        }
-        match played(&mut desk, &mut words) {
-            Ok(line) => text.push_str(&format!("{number} {line}\n")),
-            Err(BadRecord) => {
-                text.push_str(&format!("{number} bad record\n"));
-                break;
-            }
         }
     }
     text
@@ -233,13 +235,39 @@ mod tests {
         for run in runs {
             assert_eq!(listing(&bytes(run)), format!("{shown}2 bad record\n"));
         }
-        assert_eq!(listing(&[0; 39]), "1 bad record\n");
-        assert_eq!(listing(&[]), "");
+        for length in [0, 1, 8, 39] {
+            assert_eq!(listing(&vec![7; length]), "1 bad record\n");
+        }
+    }
+
+    /// 65,536 bytes: 1,441 records of 40 bytes, of which 3 carry a desk of 2,632 more.
+    fn longest_run() -> Vec<u8> {
+        let desk = [&[6, 0, 0, 0, 0][..], &[0; 329]].concat();
+        let withdraws = [5, 0, 0, 0, 0].repeat(1438);
+        bytes(&[desk.repeat(3), withdraws].concat())
     }
 
     #[test]
-    fn only_the_first_bytes_are_looked_at() {
-        let text = listing(&bytes(&[5, 0, 0, 0, 0].repeat(1700)));
-        assert!(text.ends_with("1638 withdraw 11\n1639 bad record\n"));
+    fn a_run_of_the_greatest_length_is_played_to_its_end() {
+        let run = longest_run();
+        assert_eq!(run.len(), LIMIT);
+        let text = listing(&run);
+        assert!(text.starts_with("1 desk\n2 desk\n3 desk\n4 withdraw 11\n"));
+        assert!(text.ends_with("1441 withdraw 11\n"));
+    }
+
+    #[test]
+    fn a_longer_run_ends_with_a_bad_record() {
+        for more in [1, 39, 40, 41, 80, 10_000] {
+            let text = listing(&[longest_run(), vec![0; more]].concat());
+            assert!(text.ends_with("1441 withdraw 11\n1442 bad record\n"), "{more}");
+        }
+        for count in [1639, 1700] {
+            let text = listing(&bytes(&[5, 0, 0, 0, 0].repeat(count)));
+            assert!(text.ends_with("1638 withdraw 11\n1639 bad record\n"), "{count}");
+        }
+        let desk = [&[6, 0, 0, 0, 0][..], &[0; 329]].concat();
+        let text = listing(&bytes(&desk.repeat(25)));
+        assert!(text.ends_with("24 desk\n25 bad record\n"));
     }
 }
