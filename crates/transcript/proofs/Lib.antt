@@ -1,0 +1,7 @@
+-- `Filled`: an array filled by a loop. `TurnLaws`: turns one after the other. `DeedLaws`: what is known of a record that was read. `Fits`: no text is cut.
+-- `Only`: no second result.
+pub mod Filled
+pub mod TurnLaws
+pub mod DeedLaws
+pub mod Fits
+pub mod Only

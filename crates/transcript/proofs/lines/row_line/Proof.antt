@@ -1,0 +1,119 @@
+-- `transcript::lines::row_line` meets its contract: nothing for an empty row, else eleven pieces, one behind the other. Assumes nothing.
+use mathlib.Core.Path.{_≡_}
+use mathlib.Core.Bool.{true, false, not}
+use mathlib.Core.List.{List, [], _∷_, _++_}
+use borrow.Author.Tests.{not-true, not-false}
+use Rattle.text.specs.Texts.{blank, newline, numberColumn}
+use Rattle.desk.specs.declared.Row.{Row}
+use Prim.Native.Nat.{ℕ}
+use Rattle.text.proofs.Pieces.{none, then, said, kept}
+use Rattle.transcript.specs.Lines.{floatColumn, rowLine}
+use borrow.Author.Needs.{needs}
+use Rattle.transcript.proofs.lines.row_line.Statement.{statement}
+use Rattle.transcript.proofs.lines.row_line.Tie as tie
+
+-- the columns of a row that is filled
+abbrev columns : ℕ → Row → List ℕ
+columns i r =
+    (114 ∷ 111 ∷ 119 ∷ blank ∷ [])
+    ++ numberColumn i blank
+    ++ numberColumn (r .caller) blank
+    ++ numberColumn (r .ticket) blank
+    ++ numberColumn (r .kind) blank
+    ++ numberColumn (r .region) blank
+    ++ floatColumn (r .p) blank
+    ++ floatColumn (r .y) blank
+    ++ numberColumn (r .halvings) blank
+    ++ floatColumn (r .lo) blank
+    ++ floatColumn (r .hi) newline
+
+-- a row that is not filled, and one that is
+empty : (i : ℕ) (r : Row) → not (r .filled) ≡ true → [] ≡ rowLine i r
+unfolding rowLine
+empty i r e = simp (not-true (r .filled) e)
+
+full : (i : ℕ) (r : Row) → not (r .filled) ≡ false → columns i r ≡ rowLine i r
+unfolding rowLine
+full i r e = simp (not-false (r .filled) e)
+
+returns : tie.Need-returns
+unfolding rowLine
+returns c = let a = c .before .before .before .args in said (empty (a .i) (a .r) (c .if1 .taken)) (none _ _)
+
+slice-aggregate-bytes : tie.Need-slice-aggregate-bytes
+slice-aggregate-bytes c = search needs
+
+bytes-requires : tie.Need-bytes-requires
+bytes-requires c κs = search needs
+
+decimal-requires : tie.Need-decimal-requires
+decimal-requires c κs = search needs
+
+decimal-requires-2 : tie.Need-decimal-requires-2
+decimal-requires-2 c κs = search needs
+
+decimal-requires-3 : tie.Need-decimal-requires-3
+decimal-requires-3 c κs = search needs
+
+decimal-requires-4 : tie.Need-decimal-requires-4
+decimal-requires-4 c κs = search needs
+
+decimal-requires-5 : tie.Need-decimal-requires-5
+decimal-requires-5 c κs = search needs
+
+float-requires : tie.Need-float-requires
+float-requires c κs = search needs
+
+float-requires-2 : tie.Need-float-requires-2
+float-requires-2 c κs = search needs
+
+decimal-requires-6 : tie.Need-decimal-requires-6
+decimal-requires-6 c κs = search needs
+
+float-requires-3 : tie.Need-float-requires-3
+float-requires-3 c κs = search needs
+
+float-requires-4 : tie.Need-float-requires-4
+float-requires-4 c κs = search needs
+
+returns-2 : tie.Need-returns-2
+unfolding rowLine
+returns-2 c =
+    let hi = c .before .before in
+    let lo = hi .before .before .before .before in
+    let halvings = lo .before .before .before .before in
+    let y = halvings .before .before .before .before in
+    let p = y .before .before .before .before in
+    let region = p .before .before .before .before in
+    let kind = region .before .before .before .before in
+    let ticket = kind .before .before .before .before in
+    let caller = ticket .before .before .before .before in
+    let number = caller .before .before .before .before in
+    let word = number .before .before .before .before in
+    let filled = word .before .before .before in
+    let a = filled .before .before .before .args in
+    said (full (a .i) (a .r) (filled .if1 .left))
+    (then (then (then (then (then (then (then (then (then (then (word .bytes .ensures) (number .decimal .ensures)) (caller .decimal2 .ensures)) (ticket .decimal3 .ensures)) (kind .decimal4 .ensures)) (region .decimal5 .ensures)) (p .float .ensures)) (y .float2 .ensures)) (halvings .decimal6 .ensures)) (lo .float3 .ensures)) (hi .float4 .ensures))
+
+same-length : tie.Need-same-length
+same-length c = kept (returns-2 c)
+
+pub row-line-spec : {M : Type 1} → statement M
+row-line-spec =
+    tie.close
+    (tie.spec
+    returns
+    slice-aggregate-bytes
+    bytes-requires
+    decimal-requires
+    decimal-requires-2
+    decimal-requires-3
+    decimal-requires-4
+    decimal-requires-5
+    float-requires
+    float-requires-2
+    decimal-requires-6
+    float-requires-3
+    float-requires-4
+    same-length
+    returns-2)

@@ -1,0 +1,87 @@
+-- What a record does: the desk that it leaves, the bytes that it takes, the text that it writes. The calls are those of the desk's runs, in the words
+-- of its theorems. Definitions only.
+use Prim.Native.Nat.{ℕ, zero, suc, _+_}
+use mathlib.Core.Path.{_≡_}
+use mathlib.Core.List.{List}
+use lib.ListN.{length}
+use Rattle.desk.specs.Model.{turnOf}
+use Rattle.desk.specs.Runs as Runs
+use Rattle.desk.specs.declared.Desk.{Desk}
+use Rattle.desk.specs.declared.Answer.{Answer}
+use Rattle.desk.specs.declared.Answer.the-variants as Answer
+use Rattle.desk.specs.declared.Outcome.{Outcome}
+use Rattle.transcript.specs.declared.Call.{Call}
+use Rattle.transcript.specs.declared.Call.the-variants.{Post, Peek, Collect, Withdraw}
+use Rattle.transcript.specs.declared.Deed.{Deed}
+use Rattle.transcript.specs.declared.Deed.the-variants.{Asked, Turns, Given, Shown, Bad}
+use Rattle.transcript.specs.declared.Turned.{Turned}
+use Rattle.transcript.specs.declared.Step.{Step}
+use Rattle.transcript.specs.Records.{recordBytes, deskBytes, deskIn, deedOf}
+use Rattle.transcript.specs.Lines.{callLine, turnsLine, givenLine, badLine, shownLines}
+
+-- ---- a call
+
+-- the same call in the words of runs
+abbrev pub callOf : Call → Runs.Call
+callOf (Post caller kind p y) = Runs.post caller kind p y
+callOf (Peek caller ticket) = Runs.peek caller ticket
+callOf (Collect caller ticket) = Runs.collect caller ticket
+callOf (Withdraw caller ticket) = Runs.withdraw caller ticket
+
+abbrev pub outcomeOf : Desk → Call → Outcome
+outcomeOf d call = Runs.step d (callOf call)
+
+-- ---- turns
+
+-- one turn more, which gave this answer and left this desk; of the answers a turn gives only three
+unfoldable pub counted : Turned → Answer → Desk → Turned
+counted t (Answer.Refused n) d = record { refusal = n; halved = t .halved; idle = t .idle; desk = d }
+counted t Answer.Halved d = record { refusal = t .refusal; halved = t .halved + 1; idle = t .idle; desk = d }
+counted t Answer.Idle d = record { refusal = t .refusal; halved = t .halved; idle = t .idle + 1; desk = d }
+counted t (Answer.Ticket n) d = record { refusal = t .refusal; halved = t .halved; idle = t .idle; desk = d }
+counted t (Answer.Shown n lo hi) d = record { refusal = t .refusal; halved = t .halved; idle = t .idle; desk = d }
+counted t (Answer.State s) d = record { refusal = t .refusal; halved = t .halved; idle = t .idle; desk = d }
+counted t Answer.Freed d = record { refusal = t .refusal; halved = t .halved; idle = t .idle; desk = d }
+
+abbrev pub turnedOnce : Turned → Turned
+turnedOnce t = counted t (turnOf (t .desk) .answer) (turnOf (t .desk) .desk)
+
+-- n turns more
+unfoldable pub turnsFrom : ℕ → Turned → Turned
+turnsFrom zero t = t
+turnsFrom (suc n) t = turnsFrom n (turnedOnce t)
+
+abbrev pub turnsOf : ℕ → Desk → Turned
+turnsOf n d = turnsFrom n (record { refusal = 0; halved = 0; idle = 0; desk = d })
+
+-- ---- a record
+
+unfoldable pub deskAfter : List ℕ → Desk → Deed → Desk
+deskAfter rest d (Asked call) = outcomeOf d call .desk
+deskAfter rest d (Turns n) = turnsOf n d .desk
+deskAfter rest d Given = deskIn rest
+deskAfter rest d Shown = d
+deskAfter rest d Bad = d
+
+-- a bad record takes all that is left: it ends the run
+unfoldable pub takenBy : List ℕ → Deed → ℕ
+takenBy rest (Asked call) = recordBytes
+takenBy rest (Turns n) = recordBytes
+takenBy rest Given = deskBytes
+takenBy rest Shown = recordBytes
+takenBy rest Bad = length rest
+
+-- What a record promises of the desk d and of the run: r is the desk afterwards and the bytes taken.
+pub record Done (rest : List ℕ) (d : Desk) (r : Step) : Type 0 where
+  pub desk : r .desk ≡ deskAfter rest d (deedOf rest)
+  pub taken : r .taken ≡ takenBy rest (deedOf rest)
+
+abbrev pub turnsText : ℕ → Turned → List ℕ
+turnsText number t = turnsLine number (t .refusal) (t .halved) (t .idle)
+
+unfoldable pub textOf : ℕ → Desk → Deed → List ℕ
+textOf number d (Asked call) = callLine number call (outcomeOf d call .answer)
+textOf number d (Turns n) = turnsText number (turnsOf n d)
+textOf number d Given = givenLine number
+textOf number d Shown = shownLines number d
+textOf number d Bad = badLine number
