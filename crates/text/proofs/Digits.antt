@@ -1,5 +1,5 @@
 -- A number's text is filled in from its end: what is left to be written, with what stands already behind it, is the whole text at every step. Assumes nothing.
-use mathlib.Core.Path.{_≡_, sym, ap, _∙_}
+use mathlib.Core.Path.{_≡_, refl, sym, ap, _∙_}
 use mathlib.Core.List.{List, [], _∷_, _++_}
 use Prim.Native.Nat.{ℕ, zero, suc, _+_, _-_, _/_, _%_, _^_, _≤_, _<_}
 use native.Mathlib.Nat.{le-of-lt, pow-suc}
@@ -9,6 +9,7 @@ use lib.ListN.{length, take, drop, set}
 use lib.Seq.{append-snoc, drop-at, length-take-le, set-split}
 use borrow.Author.Tests.{lt-ltb, le-ltb}
 use Rattle.text.specs.Texts.{decimalFrom, hexDigit, hexFrom}
+use Rattle.text.specs.Decimals.{digitsFrom}
 
 -- what stands from a place on once a digit is stored there
 drop-set : (t : List ℕ) (i d : ℕ) → i < length t → drop i (set t i d) ≡ d ∷ drop (i + 1) t
@@ -50,3 +51,18 @@ pub digits-left : (k n : ℕ) → 10 ≤ n → n < 10 ^ k → (2 ≤ k) × (n / 
 digits-left zero n l h = absurd (omega arith)
 digits-left (suc zero) n l h = absurd (omega arith)
 digits-left (suc (suc k)) n l h = let e : suc (suc k) - 1 ≡ suc k = omega arith in (omega arith, rw e (omega (arith, pow-suc 10 (suc k))))
+
+-- ---- decimals
+
+pub digits-next : (i n : ℕ) (t : List ℕ) → i < length t → digitsFrom i (n / 10) ++ drop i (set t i (48 + n % 10)) ≡ digitsFrom (i + 1) n ++ drop (i + 1) t
+unfolding digitsFrom
+digits-next i n t h = moved (digitsFrom i (n / 10)) t i (48 + n % 10) h ∙ ap (λ (k : ℕ). digitsFrom k n ++ drop (i + 1) t) (sym (add-one i))
+
+-- of three digits and a byte behind them, the last k and the byte
+pub digits-last : (k n end : ℕ) → k ≤ 3 → drop (3 - k) (digitsFrom 3 n ++ end ∷ []) ≡ digitsFrom k n ++ end ∷ []
+unfolding digitsFrom
+digits-last zero n end h = refl
+digits-last (suc zero) n end h = refl
+digits-last (suc (suc zero)) n end h = refl
+digits-last (suc (suc (suc zero))) n end h = refl
+digits-last (suc (suc (suc (suc k)))) n end h = absurd (omega arith)

@@ -15,6 +15,8 @@ use Rattle.text.proofs.hex.Kinds as hex-kinds
 use Rattle.text.proofs.hex.Reads as hex
 use Rattle.text.proofs.column.Kinds as column-kinds
 use Rattle.text.proofs.column.Reads as column
+use Rattle.text.proofs.plain.fixed.Kinds as fixed-kinds
+use Rattle.text.proofs.plain.fixed.Reads as fixed
 
 -- A promise that leaves one result and one room afterwards: for a function of n lifetimes, parameters ps and a result r, whatever the arguments are.
 -- `room` picks the lent slice out of the parameters as they stand at exit.
@@ -33,3 +35,6 @@ hex-only κs a x y s t p q = (p .place ∙ sym (q .place), p .room ∙ sym (q .r
 
 pub column-only : OnlyRoom 1 column-kinds.ps column-kinds.r (λ κs s. now (s .1 .1 .0)) column.Post
 column-only κs a x y s t p q = (p .place ∙ sym (q .place), p .room ∙ sym (q .room))
+
+pub fixed-only : OnlyRoom 1 fixed-kinds.ps fixed-kinds.r (λ κs s. now (s .1 .1 .1 .0)) fixed.Post
+fixed-only κs a x y s t p q = (p .place ∙ sym (q .place), p .room ∙ sym (q .room))

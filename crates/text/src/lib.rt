@@ -1,11 +1,15 @@
 // The text of the programs' lines, written piece by piece into a slice that the caller lends, its
 // room. A writer is given a place and answers the place behind what it wrote; where the room ends
-// first, the text is cut there (specs/Room.antt). What is written is said in specs/Texts.antt.
+// first, the text is cut there (specs/Room.antt). What is written is said in specs/Texts.antt, and of
+// plain decimals, for people, in specs/Decimals.antt.
+mod plain;
+
 ghost use mathlib.Core.Path.{_≡_};
 ghost use mathlib.Core.List.{[], _∷_, _++_};
 ghost use Prim.Native.Nat.{_-_, _<_, min};
 ghost use Rattle.text.specs.Room.{Written};
 ghost use Rattle.text.specs.Texts.{decimalOf, hexDigit, hexOf, columnOf};
+pub use plain::fixed;
 
 // A column of a line: an f64, or that there is none.
 pub enum Cell {
