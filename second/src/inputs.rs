@@ -44,7 +44,8 @@ impl Manner {
 
 /// Input for `program`: `count` is the number of random records (`arithmetic`), of
 /// rows of a sheet (`regions`, `answers`, `quotients`; of a damaged one the most) or of
-/// desk calls (`replay`). The programs `check_values` and `plant` read nothing.
+/// desk calls (`replay`). The programs `check_values`, `desk_run` and
+/// `plant` read nothing.
 pub fn of(program: Program, seed: u64, count: usize, manner: Manner) -> Vec<u8> {
     let mut random = Random::new(!seed);
     match manner {
@@ -64,7 +65,7 @@ fn whole(program: Program, seed: u64, count: usize) -> Vec<u8> {
         Program::Regions | Program::Answers => papers::queries(seed, count),
         Program::Quotients => papers::triples(seed, count),
         Program::Replay => runs::records(seed, count),
-        Program::CheckValues | Program::Plant => Vec::new(),
+        Program::CheckValues | Program::DeskRun | Program::Plant => Vec::new(),
     }
 }
 

@@ -31,7 +31,7 @@ use std::process::ExitCode;
 
 const USAGE: &str = "usage: second inputs NAME SEED COUNT [MANNER]
        second outputs NAME
-names: arithmetic check_values regions answers quotients replay plant
+names: arithmetic check_values regions answers quotients desk_run replay plant
 manners: whole damaged empty cut oversized random";
 
 /// The programs that are compared, by the names they are built under.
@@ -42,6 +42,7 @@ pub enum Program {
     Regions,
     Answers,
     Quotients,
+    DeskRun,
     Replay,
     Plant,
 }
@@ -54,6 +55,7 @@ impl Program {
             "regions" => Some(Program::Regions),
             "answers" => Some(Program::Answers),
             "quotients" => Some(Program::Quotients),
+            "desk_run" => Some(Program::DeskRun),
             "replay" => Some(Program::Replay),
             "plant" => Some(Program::Plant),
             _ => None,
@@ -61,7 +63,7 @@ impl Program {
     }
 
     fn reads_input(self) -> bool {
-        !matches!(self, Program::CheckValues | Program::Plant)
+        !matches!(self, Program::CheckValues | Program::DeskRun | Program::Plant)
     }
 }
 

@@ -1,6 +1,7 @@
 //! What each program must print for a given standard input.
 
 mod check_values;
+mod desk_run;
 mod listings;
 mod numbers;
 mod plant;
@@ -18,6 +19,7 @@ pub fn of(program: Program, input: &[u8]) -> String {
         Program::Regions => listings::regions(input),
         Program::Answers => listings::answers(input),
         Program::Quotients => listings::quotients(input),
+        Program::DeskRun => desk_run::listing(),
         Program::Replay => replay::listing(input),
         Program::Plant => plant::listing(),
     }
@@ -29,7 +31,7 @@ pub fn most_bytes(program: Program) -> usize {
         Program::Arithmetic => numbers::LIMIT,
         Program::Regions | Program::Answers | Program::Quotients => listings::LONGEST,
         Program::Replay => replay::LIMIT,
-        Program::CheckValues | Program::Plant => 0,
+        Program::CheckValues | Program::DeskRun | Program::Plant => 0,
     }
 }
 
