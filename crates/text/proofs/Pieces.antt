@@ -108,6 +108,10 @@ then {o} {o₁} {o₂} {a} {b} {at} {p} {q} x y = record {
 pub said : {o o₁ s t : List ℕ} {at p : ℕ} → s ≡ t → Written o at s o₁ p → Written o at t o₁ p
 said {o} {o₁} {s} {t} {at} {p} e x = record { room = x .room ∙ ap (placed o at) e; place = x .place ∙ ap (after o at) e }
 
+-- the same place, said otherwise
+pub behind : {o o₁ s : List ℕ} {at p q : ℕ} → p ≡ q → Written o at s o₁ p → Written o at s o₁ q
+behind e x = record { room = x .room; place = sym e ∙ x .place }
+
 -- the room keeps its length
 pub kept : {o s o₁ : List ℕ} {at p : ℕ} → Written o at s o₁ p → length o₁ ≡ length o
 kept {o} {s} {o₁} {at} {p} x = ap length (x .room) ∙ placed-length o at s

@@ -32,7 +32,7 @@ signOf nan = []
 signOf (inf s) = []
 signOf (fin s m e) = cond s (45 ∷ []) []
 
--- whether x lies between -2^53 and 2^53: up to there f64 has fractions
+-- whether x lies between -2^53 and 2^53: up to there every whole number is an f64
 unfoldable pub modest : Float → Bool
 modest nan = false
 modest (inf s) = false

@@ -36,7 +36,7 @@ fn power_of_ten(k: usize) -> u64
 }
 
 // The whole number nearest |x| · scale, of an x below 2^53 in size that is given by its bits. From
-// 2^-63 on |x| is digits / unit; what is smaller gives 0 at every scale up to 1000.
+// 2^-11 on |x| is digits / unit; what is smaller is below a half at every scale up to 1000.
 fn scaled(bits: u64, scale: u64) -> u64
     requires { ⌜ (bits % 2 ^ 63 < 1076 * 2 ^ 52) × (scale ≤ 1000) ⌝ }
     ensures { λ r. ⌜ r ≡ scaledOf scale (ofBits binary64 bits) ⌝ }

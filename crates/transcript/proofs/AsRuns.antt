@@ -1,43 +1,74 @@
--- A record that calls the desk does to it what its calls do in a run (desk specs/Runs.antt), so that the desk's theorems are about what `replay` plays:
--- a run of such records from a new desk is one of theirs. Assumes nothing.
-use Prim.Native.Nat.{ℕ, zero, suc}
-use mathlib.Core.Path.{_≡_, refl, ap, _∙_}
-use mathlib.Core.List.{List, [], _∷_}
+-- What `replay` plays is a run in the sense of the desk's theorems (desk specs/Runs.antt): before each record of a run in which no desk is given, the desk
+-- is the one that the calls of the records before it leave (`desk-is-after`). Assumes nothing.
+use Prim.Native.Nat.{ℕ, zero, suc, _<_}
+use native.Mathlib.Omega.{arith}
+use mathlib.Core.Path.{_≡_, refl, sym, ap, _∙_}
+use mathlib.Core.List.{List, [], _∷_, _++_}
 use lib.ListN.{replicate}
 use Rattle.desk.specs.Model.{turnOf}
 use Rattle.desk.specs.Runs as Runs
 use Rattle.desk.specs.declared.Desk.{Desk}
 use Rattle.desk.specs.declared.Answer.{Answer}
 use Rattle.desk.specs.declared.Answer.the-variants.{Refused, Ticket, Halved, Idle, Shown, State, Freed}
-use Rattle.transcript.specs.declared.Call.{Call}
-use Rattle.transcript.specs.declared.Deed.the-variants.{Asked, Turns}
+use Rattle.desk.proofs.Runs.Own.{after-append}
+use Rattle.transcript.specs.declared.Deed.{Deed}
+use Rattle.transcript.specs.declared.Deed.the-variants as Deed
 use Rattle.transcript.specs.declared.Turned.{Turned}
-use Rattle.transcript.specs.Steps.{callOf, counted, turnedOnce, turnsFrom, deskAfter}
+use Rattle.transcript.specs.Steps.{callOf, afterTurn, turnedOnce, turnsFrom, deskAfter, standing, deedAt}
+
+-- ---- one record
 
 -- a turn that is counted leaves the desk that it left
-counted-desk : (t : Turned) (a : Answer) (d : Desk) → counted t a d .desk ≡ d
-unfolding counted
-counted-desk t (Refused n) d = refl
-counted-desk t (Ticket n) d = refl
-counted-desk t Halved d = refl
-counted-desk t Idle d = refl
-counted-desk t (Shown n lo hi) d = refl
-counted-desk t (State s) d = refl
-counted-desk t Freed d = refl
+desk-left : (t : Turned) (a : Answer) (d : Desk) → afterTurn t a d .desk ≡ d
+unfolding afterTurn
+desk-left t (Refused n) d = refl
+desk-left t (Ticket n) d = refl
+desk-left t Halved d = refl
+desk-left t Idle d = refl
+desk-left t (Shown n lo hi) d = refl
+desk-left t (State s) d = refl
+desk-left t Freed d = refl
 
 turns-desk : (n : ℕ) (t : Turned) → turnsFrom n t .desk ≡ Runs.afterFrom (t .desk) (replicate n Runs.turn)
 unfolding turnsFrom Runs.afterFrom
 turns-desk zero t = refl
 turns-desk (suc n) t =
     turns-desk n (turnedOnce t)
-    ∙ ap (λ (d : Desk). Runs.afterFrom d (replicate n Runs.turn)) (counted-desk t (turnOf (t .desk) .answer) (turnOf (t .desk) .desk))
+    ∙ ap (λ (d : Desk). Runs.afterFrom d (replicate n Runs.turn)) (desk-left t (turnOf (t .desk) .answer) (turnOf (t .desk) .desk))
 
--- a post, peek, collect or withdraw is that call
-pub asked-run : (rest : List ℕ) (d : Desk) (call : Call) → deskAfter rest d (Asked call) ≡ Runs.afterFrom d (callOf call ∷ [])
+-- the calls that a record makes
+abbrev pub callsOf : Deed → List Runs.Call
+callsOf (Deed.Asked call) = callOf call ∷ []
+callsOf (Deed.Turns n) = replicate n Runs.turn
+callsOf Deed.Given = []
+callsOf Deed.Shown = []
+callsOf Deed.Bad = []
+
+-- it gives no desk
+abbrev pub Calls : Deed → Type 0
+Calls deed = deed ≡ Deed.Given → ⊥
+
+record-run : (rest : List ℕ) (d : Desk) (deed : Deed) → Calls deed → deskAfter rest d deed ≡ Runs.afterFrom d (callsOf deed)
 unfolding deskAfter Runs.afterFrom
-asked-run rest d call = refl
+record-run rest d (Deed.Asked call) h = refl
+record-run rest d (Deed.Turns n) h = turns-desk n _
+record-run rest d Deed.Given h = absurd (h refl)
+record-run rest d Deed.Shown h = refl
+record-run rest d Deed.Bad h = refl
 
--- turns are so many turns
-pub turns-run : (rest : List ℕ) (d : Desk) (n : ℕ) → deskAfter rest d (Turns n) ≡ Runs.afterFrom d (replicate n Runs.turn)
-unfolding deskAfter
-turns-run rest d n = turns-desk n _
+-- ---- a run
+
+-- the calls of the first n records
+unfoldable pub callsIn : List ℕ → ℕ → List Runs.Call
+callsIn run zero = []
+callsIn run (suc n) = callsIn run n ++ callsOf (deedAt run n)
+
+pub desk-is-after : (run : List ℕ) (n : ℕ) → ((k : ℕ) → k < n → Calls (deedAt run k)) → standing run n .desk ≡ Runs.after (callsIn run n)
+unfolding standing callsIn Runs.afterFrom
+desk-is-after run zero h = refl
+desk-is-after run (suc n) h =
+    let d = standing run n .desk in
+    let before = desk-is-after run n (λ k l. h k (omega arith)) in
+    record-run (standing run n .rest) d (deedAt run n) (h n (omega arith))
+    ∙ ap (λ (e : Desk). Runs.afterFrom e (callsOf (deedAt run n))) before
+    ∙ sym (after-append _ (callsIn run n) (callsOf (deedAt run n)))

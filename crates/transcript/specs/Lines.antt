@@ -56,7 +56,7 @@ stateColumns a =
     ++ floatColumn (a .state .cp) blank
     ++ floatColumn (a .state .w) newline
 
--- `0 `, which is no refusal, and what was handed out
+-- `0 `, which is no refusal, and what was handed out; Halved and Idle are answers to turns, which none of these calls gets
 unfoldable pub answerOf : Call → Answer → List ℕ
 answerOf call (Refused n) = refusedOf call n
 answerOf call (Ticket t) = (48 ∷ blank ∷ []) ++ numberColumn t newline
@@ -81,7 +81,7 @@ unfoldable pub givenLine : ℕ → List ℕ
 givenLine number = numberColumn number blank ++ 100 ∷ 101 ∷ 115 ∷ 107 ∷ newline ∷ []
 
 unfoldable pub badLine : ℕ → List ℕ
-badLine number = numberColumn number blank ++ 98 ∷ 97 ∷ 100 ∷ 32 ∷ 114 ∷ 101 ∷ 99 ∷ 111 ∷ 114 ∷ 100 ∷ newline ∷ []
+badLine number = numberColumn number blank ++ 98 ∷ 97 ∷ 100 ∷ blank ∷ 114 ∷ 101 ∷ 99 ∷ 111 ∷ 114 ∷ 100 ∷ newline ∷ []
 
 -- ---- a desk shown
 

@@ -1,10 +1,11 @@
--- What a record does: the desk that it leaves, the bytes that it takes, the text that it writes. The calls are those of the desk's runs, in the words
--- of its theorems. Definitions only.
+-- What a record does: the desk that it leaves, the bytes that it takes, the text that it writes; and what a run of them does. The calls are those of the
+-- desk's runs, in the words of its theorems. Definitions only.
 use Prim.Native.Nat.{ℕ, zero, suc, _+_}
 use mathlib.Core.Path.{_≡_}
 use mathlib.Core.List.{List}
-use lib.ListN.{length}
-use Rattle.desk.specs.Model.{turnOf}
+use lib.ListN.{length, drop}
+use Rattle.text.specs.Texts.{joined}
+use Rattle.desk.specs.Model.{newDesk, turnOf}
 use Rattle.desk.specs.Runs as Runs
 use Rattle.desk.specs.declared.Desk.{Desk}
 use Rattle.desk.specs.declared.Answer.{Answer}
@@ -34,17 +35,17 @@ outcomeOf d call = Runs.step d (callOf call)
 -- ---- turns
 
 -- one turn more, which gave this answer and left this desk; of the answers a turn gives only three
-unfoldable pub counted : Turned → Answer → Desk → Turned
-counted t (Answer.Refused n) d = record { refusal = n; halved = t .halved; idle = t .idle; desk = d }
-counted t Answer.Halved d = record { refusal = t .refusal; halved = t .halved + 1; idle = t .idle; desk = d }
-counted t Answer.Idle d = record { refusal = t .refusal; halved = t .halved; idle = t .idle + 1; desk = d }
-counted t (Answer.Ticket n) d = record { refusal = t .refusal; halved = t .halved; idle = t .idle; desk = d }
-counted t (Answer.Shown n lo hi) d = record { refusal = t .refusal; halved = t .halved; idle = t .idle; desk = d }
-counted t (Answer.State s) d = record { refusal = t .refusal; halved = t .halved; idle = t .idle; desk = d }
-counted t Answer.Freed d = record { refusal = t .refusal; halved = t .halved; idle = t .idle; desk = d }
+unfoldable pub afterTurn : Turned → Answer → Desk → Turned
+afterTurn t (Answer.Refused n) d = record { refusal = n; halved = t .halved; idle = t .idle; desk = d }
+afterTurn t Answer.Halved d = record { refusal = t .refusal; halved = t .halved + 1; idle = t .idle; desk = d }
+afterTurn t Answer.Idle d = record { refusal = t .refusal; halved = t .halved; idle = t .idle + 1; desk = d }
+afterTurn t (Answer.Ticket n) d = record { refusal = t .refusal; halved = t .halved; idle = t .idle; desk = d }
+afterTurn t (Answer.Shown n lo hi) d = record { refusal = t .refusal; halved = t .halved; idle = t .idle; desk = d }
+afterTurn t (Answer.State s) d = record { refusal = t .refusal; halved = t .halved; idle = t .idle; desk = d }
+afterTurn t Answer.Freed d = record { refusal = t .refusal; halved = t .halved; idle = t .idle; desk = d }
 
 abbrev pub turnedOnce : Turned → Turned
-turnedOnce t = counted t (turnOf (t .desk) .answer) (turnOf (t .desk) .desk)
+turnedOnce t = afterTurn t (turnOf (t .desk) .answer) (turnOf (t .desk) .desk)
 
 -- n turns more
 unfoldable pub turnsFrom : ℕ → Turned → Turned
@@ -85,3 +86,28 @@ textOf number d (Turns n) = turnsText number (turnsOf n d)
 textOf number d Given = givenLine number
 textOf number d Shown = shownLines number d
 textOf number d Bad = badLine number
+
+-- ---- a run
+
+-- where a run stands: the desk, and what is left of the bytes
+pub record Standing : Type 0 where
+  pub desk : Desk
+  pub rest : List ℕ
+
+-- one record on
+abbrev pub onward : Standing → Standing
+onward s =
+    let deed = deedOf (s .rest) in
+    record { desk = deskAfter (s .rest) (s .desk) deed; rest = drop (takenBy (s .rest) deed) (s .rest) }
+
+-- where a run stands before record k, counted from 0: the first finds a new desk
+unfoldable pub standing : List ℕ → ℕ → Standing
+standing run zero = record { desk = newDesk; rest = run }
+standing run (suc k) = onward (standing run k)
+
+abbrev pub deedAt : List ℕ → ℕ → Deed
+deedAt run k = deedOf (standing run k .rest)
+
+-- what is printed of the first n records of a run, numbered from 1. The run is over when nothing is left behind a record.
+unfoldable pub transcript : List ℕ → ℕ → List ℕ
+transcript run n = joined (λ k. textOf (k + 1) (standing run k .desk) (deedAt run k)) n

@@ -28,6 +28,13 @@ fn asked(d: Desk, call: Call) -> Outcome
     }
 }
 
+// The result of a record.
+fn stepped(desk: Desk, taken: usize, end: usize) -> Step
+    ensures { λ r. ⌜ r ≡ record { desk = desk; taken = taken; end = end } ⌝ }
+{
+    Step { desk, taken, end }
+}
+
 // Does what the record at the front of the bytes that are left asks for, on the desk d, and writes its
 // text, with its number, into the room. A bad record takes all that is left: it ends the run.
 pub fn play(rest: &[u8], number: u64, d: Desk, out: &mut [u8]) -> Step
@@ -37,37 +44,19 @@ pub fn play(rest: &[u8], number: u64, d: Desk, out: &mut [u8]) -> Step
     match deed {
         Deed::Asked(call) => {
             let o = asked(d, call);
-            let a = o.answer;
-            let e = o.desk;
-            Step {
-                desk: e,
-                taken: 40,
-                end: told(number, call, a, out),
-            }
+            let answer = o.answer;
+            let end = told(number, call, answer, out);
+            let after = o.desk;
+            stepped(after, 40, end)
         }
         Deed::Turns(n) => {
             let t = turns(d, n);
-            let e = t.desk;
-            Step {
-                desk: e,
-                taken: 40,
-                end: turned(number, t.refusal, t.halved, t.idle, out),
-            }
+            let end = turned(number, t.refusal, t.halved, t.idle, out);
+            let after = t.desk;
+            stepped(after, 40, end)
         }
-        Deed::Given => Step {
-            desk: desk_in(rest),
-            taken: 2672,
-            end: opened(number, b"desk\n", out),
-        },
-        Deed::Shown => Step {
-            desk: d,
-            taken: 40,
-            end: shown(number, d, out),
-        },
-        Deed::Bad => Step {
-            desk: d,
-            taken: rest.len(),
-            end: opened(number, b"bad record\n", out),
-        },
+        Deed::Given => stepped(desk_in(rest), 2672, opened(number, b"desk\n", out)),
+        Deed::Shown => stepped(d, 40, shown(number, d, out)),
+        Deed::Bad => stepped(d, rest.len(), opened(number, b"bad record\n", out)),
     }
 }

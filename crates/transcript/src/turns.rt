@@ -4,12 +4,12 @@ use desk::Answer;
 use desk::Desk;
 ghost use mathlib.Core.Path.{_≡_};
 ghost use Prim.Native.Nat.{_≤_, _<_};
-ghost use Rattle.transcript.specs.Steps.{counted, turnsOf};
+ghost use Rattle.transcript.specs.Steps.{afterTurn, turnsOf};
 
 // Counts one turn more, which gave this answer and left this desk.
 fn count(t: Turned, a: Answer, d: Desk) -> Turned
     requires { ⌜ (t .halved < 100000) × (t .idle < 100000) ⌝ }
-    ensures { λ r. ⌜ r ≡ counted t a d ⌝ }
+    ensures { λ r. ⌜ r ≡ afterTurn t a d ⌝ }
 {
     let mut s = t;
     s.desk = d;

@@ -42,7 +42,8 @@ returns-2 c =
     let word = c .before in
     let l = word .before .before in
     let rest = l .before .before .before .args .rest .now in
-    let no = upto-fails (λ k. leb (wordOf rest (rowStart k)) 1) 32 (l .loop .i) (word .before .loop-test .taken) (lt-leb (wordOf rest (rowStart (l .loop .i))) 1 (rw (sym (word .word .ensures)) (c .if2 .taken))) in
+    let two = lt-leb (wordOf rest (rowStart (l .loop .i))) 1 (rw (sym (word .word .ensures)) (c .if2 .taken)) in
+    let no = upto-fails (λ k. leb (wordOf rest (rowStart k)) 1) 32 (l .loop .i) (word .before .loop-test .taken) two in
     simp (le-leb _ _ (l .before .if1 .left), no)
 
 add-i : tie.Need-add-i Inv-loop μ-loop

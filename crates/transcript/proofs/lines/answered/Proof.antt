@@ -112,7 +112,8 @@ returns-3 c =
     let lo = hi .before .before .before .before in
     let halvings = lo .before .before .before .before in
     let none = halvings .before .before .before .before in
-    said (ap (answerOf _) (sym (none .before .before .before .before .answer3 .given .1))) (then (then (then (none .bytes2 .ensures) (halvings .decimal2 .ensures)) (lo .float .ensures)) (hi .float2 .ensures))
+    said (ap (answerOf _) (sym (none .before .before .before .before .answer3 .given .1)))
+    (then (then (then (none .bytes2 .ensures) (halvings .decimal2 .ensures)) (lo .float .ensures)) (hi .float2 .ensures))
 
 same-length-4 : tie.Need-same-length-4
 same-length-4 c = search needs

@@ -58,7 +58,8 @@ returns c =
     let dashes = c .before .before in
     let number = dashes .before .before .before .before .before in
     let told = number .before .before in
-    said (ap (λ (call : Call). refusedOf call (told .before .before .before .args .n)) (sym (told .enum-told .given .1))) (then (number .decimal .ensures) (dashes .bytes .ensures))
+    said (ap (λ (call : Call). refusedOf call (told .before .before .before .args .n)) (sym (told .enum-told .given .1)))
+    (then (number .decimal .ensures) (dashes .bytes .ensures))
 
 same-length-2 : tie.Need-same-length-2
 same-length-2 c = search needs
@@ -69,7 +70,8 @@ returns-2 c =
     let dashes = c .before .before in
     let number = dashes .before .before .before .before .before in
     let told = number .before .before in
-    said (ap (λ (call : Call). refusedOf call (told .before .before .before .args .n)) (sym (told .enum-told2 .given .1))) (then (number .decimal2 .ensures) (dashes .bytes2 .ensures))
+    said (ap (λ (call : Call). refusedOf call (told .before .before .before .args .n)) (sym (told .enum-told2 .given .1)))
+    (then (number .decimal2 .ensures) (dashes .bytes2 .ensures))
 
 same-length-3 : tie.Need-same-length-3
 same-length-3 c = search needs
@@ -80,7 +82,8 @@ returns-3 c =
     let dashes = c .before .before in
     let number = dashes .before .before .before .before .before in
     let told = number .before .before in
-    said (ap (λ (call : Call). refusedOf call (told .before .before .before .args .n)) (sym (told .enum-told3 .given .1))) (then (number .decimal3 .ensures) (dashes .bytes3 .ensures))
+    said (ap (λ (call : Call). refusedOf call (told .before .before .before .args .n)) (sym (told .enum-told3 .given .1)))
+    (then (number .decimal3 .ensures) (dashes .bytes3 .ensures))
 
 same-length-4 : tie.Need-same-length-4
 same-length-4 c = search needs
@@ -90,7 +93,8 @@ unfolding refusedOf
 returns-4 c =
     let number = c .before .before in
     let told = number .before .before in
-    said (ap (λ (call : Call). refusedOf call (told .before .before .before .args .n)) (sym (told .enum-told4 .given .1))) (number .decimal4 .ensures)
+    said (ap (λ (call : Call). refusedOf call (told .before .before .before .args .n)) (sym (told .enum-told4 .given .1)))
+    (number .decimal4 .ensures)
 
 pub refused-spec : {M : Type 1} → statement M
 refused-spec =

@@ -92,8 +92,10 @@ returns-2 c =
     let word = number .before .before .before .before in
     let filled = word .before .before .before in
     let a = filled .before .before .before .args in
+    let holder = then (then (then (word .bytes .ensures) (number .decimal .ensures)) (caller .decimal2 .ensures)) (ticket .decimal3 .ensures) in
+    let query = then (then (then (then holder (kind .decimal4 .ensures)) (region .decimal5 .ensures)) (p .float .ensures)) (y .float2 .ensures) in
     said (full (a .i) (a .r) (filled .if1 .left))
-    (then (then (then (then (then (then (then (then (then (then (word .bytes .ensures) (number .decimal .ensures)) (caller .decimal2 .ensures)) (ticket .decimal3 .ensures)) (kind .decimal4 .ensures)) (region .decimal5 .ensures)) (p .float .ensures)) (y .float2 .ensures)) (halvings .decimal6 .ensures)) (lo .float3 .ensures)) (hi .float4 .ensures))
+    (then (then (then query (halvings .decimal6 .ensures)) (lo .float3 .ensures)) (hi .float4 .ensures))
 
 same-length : tie.Need-same-length
 same-length c = kept (returns-2 c)

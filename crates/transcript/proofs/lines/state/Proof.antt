@@ -55,7 +55,10 @@ returns c =
     let mark = p .before .before .before .before in
     let bit = mark .before .before in
     let region = bit .before .before .before in
-    then (then (then (then (then (then (then (then (then (region .decimal .ensures) (said (ap (λ (n : ℕ). numberColumn n blank) (bit .bit .ensures)) (mark .decimal2 .ensures))) (p .float .ensures)) (t .float2 .ensures)) (v .float3 .ensures)) (u .float4 .ensures)) (h .float5 .ensures)) (s .float6 .ensures)) (cp .float7 .ensures)) (w .float8 .ensures)
+    let front = then (region .decimal .ensures) (said (ap (λ (n : ℕ). numberColumn n blank) (bit .bit .ensures)) (mark .decimal2 .ensures)) in
+    let place = then (then front (p .float .ensures)) (t .float2 .ensures) in
+    let energy = then (then (then place (v .float3 .ensures)) (u .float4 .ensures)) (h .float5 .ensures) in
+    then (then (then energy (s .float6 .ensures)) (cp .float7 .ensures)) (w .float8 .ensures)
 
 same-length : tie.Need-same-length
 same-length c = kept (returns c)

@@ -22,13 +22,15 @@ returns-2 : tie.Need-returns-2
 unfolding deedOf
 returns-2 c =
     let word = c .before .before .before in
-    simp (le-leb _ _ (word .before .if1 .left), eq-eqb _ _ (sym (word .word .ensures) ∙ c .before .before .if2 .taken), sym (c .before .rows-known .ensures) ∙ c .if3 .taken)
+    let six = eq-eqb _ _ (sym (word .word .ensures) ∙ c .before .before .if2 .taken) in
+    simp (le-leb _ _ (word .before .if1 .left), six, sym (c .before .rows-known .ensures) ∙ c .if3 .taken)
 
 returns-3 : tie.Need-returns-3
 unfolding deedOf
 returns-3 c =
     let word = c .before .before .before in
-    simp (le-leb _ _ (word .before .if1 .left), eq-eqb _ _ (sym (word .word .ensures) ∙ c .before .before .if2 .taken), sym (c .before .rows-known .ensures) ∙ c .if3 .left)
+    let six = eq-eqb _ _ (sym (word .word .ensures) ∙ c .before .before .if2 .taken) in
+    simp (le-leb _ _ (word .before .if1 .left), six, sym (c .before .rows-known .ensures) ∙ c .if3 .left)
 
 word-requires-2 : tie.Need-word-requires-2
 word-requires-2 c κs = search needs

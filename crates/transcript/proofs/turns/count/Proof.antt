@@ -9,7 +9,7 @@ use Rattle.desk.specs.declared.Desk.{Desk}
 use Rattle.desk.specs.declared.Answer.{Answer}
 use Rattle.desk.specs.declared.Answer.the-variants.{Refused, Ticket, Halved, Idle, Shown, State, Freed}
 use Rattle.transcript.specs.declared.Turned.{Turned}
-use Rattle.transcript.specs.Steps.{counted}
+use Rattle.transcript.specs.Steps.{afterTurn}
 use borrow.Author.Needs.{needs}
 use Rattle.transcript.proofs.turns.count.Statement.{statement}
 use Rattle.transcript.proofs.turns.count.Tie as tie
@@ -19,8 +19,8 @@ abbrev others : List ℕ
 others = 1 ∷ 4 ∷ 5 ∷ 6 ∷ []
 
 no-turn : (t : Turned) (a : Answer) (d : Desk) → OneOf others (tagOf AnswerT.the-type a)
-    → record { refusal = t .refusal; halved = t .halved; idle = t .idle; desk = d } ≡ counted t a d
-unfolding counted
+    → record { refusal = t .refusal; halved = t .halved; idle = t .idle; desk = d } ≡ afterTurn t a d
+unfolding afterTurn
 no-turn t (Refused n) d h = absurd (miss others 0 tt h)
 no-turn t (Ticket n) d h = refl
 no-turn t Halved d h = absurd (miss others 2 tt h)
@@ -45,16 +45,16 @@ add-s-2 : tie.Need-add-s-2
 add-s-2 c = search needs
 
 returns : tie.Need-returns
-unfolding counted
-returns c = let s = c .before .before .before .args in ap (λ (a : Answer). counted (s .t) a (s .d)) (sym (c .before .a .given .1))
+unfolding afterTurn
+returns c = let s = c .before .before .before .args in ap (λ (a : Answer). afterTurn (s .t) a (s .d)) (sym (c .before .a .given .1))
 
 returns-2 : tie.Need-returns-2
-unfolding counted
-returns-2 c = let s = c .before .before .before .args in ap (λ (a : Answer). counted (s .t) a (s .d)) (sym (c .before .enum-told .given .1))
+unfolding afterTurn
+returns-2 c = let s = c .before .before .before .args in ap (λ (a : Answer). afterTurn (s .t) a (s .d)) (sym (c .before .enum-told .given .1))
 
 returns-3 : tie.Need-returns-3
-unfolding counted
-returns-3 c = let s = c .before .before .before .args in ap (λ (a : Answer). counted (s .t) a (s .d)) (sym (c .before .enum-told2 .given .1))
+unfolding afterTurn
+returns-3 c = let s = c .before .before .before .args in ap (λ (a : Answer). afterTurn (s .t) a (s .d)) (sym (c .before .enum-told2 .given .1))
 
 returns-4 : tie.Need-returns-4
 returns-4 c = no-turn _ _ _ (c .match .keys4)

@@ -5,7 +5,7 @@ use native.Mathlib.Omega.{arith}
 use Rattle.desk.specs.Model.{turnOf}
 use Rattle.desk.specs.declared.Outcome.{Outcome}
 use Rattle.transcript.specs.declared.Turned.{Turned}
-use Rattle.transcript.specs.Steps.{counted, turnedOnce, turnsFrom}
+use Rattle.transcript.specs.Steps.{afterTurn, turnedOnce, turnsFrom}
 use Rattle.transcript.proofs.TurnLaws.{one-turn, halved-more, idle-more}
 use borrow.Author.Needs.{needs}
 use Rattle.transcript.proofs.turns.turns.Statement.{statement}
@@ -38,7 +38,7 @@ loop-again c =
     let l = turn .before .before .before in
     let t = l .loop .t in
     let now = turnOf (t .desk) in
-    let e : c .count .result ≡ turnedOnce t = c .count .ensures ∙ ap (λ (o : Outcome). counted t (o .answer) (o .desk)) (turn .turn .ensures) in (
+    let e : c .count .result ≡ turnedOnce t = c .count .ensures ∙ ap (λ (o : Outcome). afterTurn t (o .answer) (o .desk)) (turn .turn .ensures) in (
       omega (arith, ap (λ (x : Turned). x .halved) e, halved-more t (now .answer) (now .desk)),
       omega (arith, ap (λ (x : Turned). x .idle) e, idle-more t (now .answer) (now .desk)),
       ap (turnsFrom (l .loop .left - 1)) e ∙ sym (one-turn (l .loop .left) t (turn .before .before .loop-test .taken)) ∙ l .loop .inv .2,

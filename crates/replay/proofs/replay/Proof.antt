@@ -1,5 +1,5 @@
--- `replay::main` is safe and ends: what a record takes is there, and where something is left it takes something. The measure is how many bytes are left.
--- Assumes nothing.
+-- `replay::replay` is safe and ends, and plays the records of the run as the definition of a run has them (`Next`): each by its own number, on the desk that
+-- the one before left, from where that one ended. The measure is how many bytes are left. Assumes nothing.
 use Prim.Native.Nat.{ℕ, _+_, _-_, _≤_}
 use mathlib.Core.Path.{_≡_, _∙_}
 use native.Mathlib.Omega.{arith}
@@ -7,26 +7,21 @@ use borrow.Author.Needs.{needs}
 use lib.ListN.{length, length-replicate}
 use Rattle.text.proofs.Pieces.{kept, inside}
 use Rattle.transcript.proofs.DeedLaws.{there, some}
-use Rattle.replay.proofs.main.Statement.{statement}
-use Rattle.replay.proofs.main.Tie as tie
+use Rattle.transcript.proofs.RunLaws.{Next, first, then-next}
+use Rattle.replay.proofs.replay.Statement.{statement}
+use Rattle.replay.proofs.replay.Tie as tie
 
 abbrev Inv-loop : tie.InvT-loop
-Inv-loop input n text₀ desk₀ at₀ number₀ text desk at number = (at ≤ n) × (number ≤ at + 1) × (length text ≡ 8192)
+Inv-loop run text₀ desk₀ at₀ number₀ text desk at number = (at ≤ length run) × (number ≤ at + 1) × (length text ≡ 8192) × Next run number at desk
 
 abbrev μ-loop : tie.MeasureT-loop
-μ-loop input n text₀ desk₀ at₀ number₀ text desk at number = n - at
-
-slice-aggregate-read-full : tie.Need-slice-aggregate-read-full Inv-loop μ-loop
-slice-aggregate-read-full c = search needs
-
-read-full-requires : tie.Need-read-full-requires Inv-loop μ-loop
-read-full-requires c κs = search needs
+μ-loop run text₀ desk₀ at₀ number₀ text desk at number = length run - at
 
 new-desk-requires : tie.Need-new-desk-requires Inv-loop μ-loop
 new-desk-requires c κs = search needs
 
 loop-holds : tie.Need-loop-holds Inv-loop μ-loop
-loop-holds c = (omega arith, omega arith, length-replicate {A = ℕ} 8192 0)
+loop-holds c = (omega arith, omega arith, length-replicate {A = ℕ} 8192 0, rw (c .new-desk .ensures) (first _))
 
 sub-play : tie.Need-sub-play Inv-loop μ-loop
 sub-play c = search needs
@@ -54,8 +49,7 @@ write-all-requires c κs = search needs
 
 add-at : tie.Need-add-at Inv-loop μ-loop
 add-at c =
-    let play = c .before .before .before .before .before in
-    let h = there (play .play .ensures .0) in
+    let h = there (c .before .before .before .before .before .play .ensures .0) in
     omega (arith, h)
 
 add-number : tie.Need-add-number Inv-loop μ-loop
@@ -72,19 +66,18 @@ loop-less c =
 
 loop-again : tie.Need-loop-again Inv-loop μ-loop
 loop-again c =
-    let play = c .before .before .before .before .before .before .play in
-    let h = there (play .ensures .0) in
-    let k = some (play .ensures .0) (omega arith) in
-    (omega (arith, h), omega (arith, k), kept (play .ensures .1) ∙ c .before .before .before .before .before .before .before .before .before .before .loop .inv .2)
+    let played = c .before .before .before .before .before .before in
+    let l = played .before .before .before .loop in
+    let h = there (played .play .ensures .0) in
+    let k = some (played .play .ensures .0) (omega arith) in
+    (omega (arith, h), omega (arith, k), kept (played .play .ensures .1) ∙ l .inv .2, then-next (l .inv .3) (played .play .ensures .0))
 
-pub main-spec : {M : Type 1} → statement M
-main-spec =
+pub replay-spec : {M : Type 1} → statement M
+replay-spec =
     tie.close
     (tie.spec
     Inv-loop
     μ-loop
-    slice-aggregate-read-full
-    read-full-requires
     new-desk-requires
     loop-holds
     sub-play
