@@ -4,6 +4,12 @@ use desk::Answer;
 use desk::Desk;
 use sums::Single;
 
+// The kind of a query by p in MPa and h in kJ/kg.
+pub const P_H: u64 = 2;
+
+// The kind of a query by p in MPa and s in kJ/(kg K).
+pub const P_S: u64 = 3;
+
 // What is known once a state was asked for: the state, of one phase, or the refusal's number.
 pub enum Known {
     State(Single),
@@ -60,7 +66,7 @@ fn known_of(answer: Answer) -> Known {
     }
 }
 
-// Posts the query of kind 2, (p,h), or 3, (p,s).
+// Posts the query of this kind with p and y, its h or its s.
 pub fn post(d: Desk, caller: u64, kind: u64, p: f64, y: f64) -> Posted {
     let o = desk::post(d, caller, kind, p, y);
     let e = o.desk;

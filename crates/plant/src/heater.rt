@@ -1,6 +1,6 @@
-// A feedwater heater: 50 kg/s of water at 9 MPa, heated by 3 kg/s of bled steam at 0.6 MPa, which
-// leaves as its drain. It asks for its water in directly and posts three queries (p,h): the bled steam,
-// the drain, the water out. It knows its own tickets and nothing of who else posts.
+// A feedwater heater: bled steam warms the feedwater and leaves as its drain. It asks for its water in
+// directly and posts three queries (p,h): 0 the bled steam, 1 the drain, 2 the water out. It knows its
+// own tickets and nothing of who else posts.
 ghost use Prim.Native.Nat.{_<_};
 use crate::asking;
 use crate::asking::Known;
@@ -10,15 +10,29 @@ use crate::lines::Output;
 use crate::lines::Place;
 use desk::Desk;
 
+// The number by which the desk knows the heater.
 const CALLER: u64 = 5;
 
-const FLOW: f64 = 50.0;
+// How much feedwater flows through the heater, in kg/s.
+const WATER_FLOW: f64 = 50.0;
 
-const BLED: f64 = 3.0;
+// The pressure of the feedwater, which it keeps, in MPa.
+const WATER_P: f64 = 9.0;
 
-const STEAM: f64 = 2900.0;
+// The temperature of the water in, in K.
+const WATER_IN_T: f64 = 413.15;
 
-const DRAIN: f64 = 650.0;
+// How much bled steam comes in, and leaves as the drain, in kg/s.
+const BLED_FLOW: f64 = 3.0;
+
+// The pressure of the bled steam, which its drain keeps, in MPa.
+const BLED_P: f64 = 0.6;
+
+// The enthalpy of the bled steam, in kJ/kg.
+const STEAM_H: f64 = 2900.0;
+
+// The enthalpy of the drain, in kJ/kg.
+const DRAIN_H: f64 = 650.0;
 
 // Whether the heater still runs, that is no call of its was refused; the enthalpy of its water in, in
 // kJ/kg; and the tickets of its three queries.
@@ -34,6 +48,7 @@ pub struct AtDesk {
     pub heater: Heater,
 }
 
+// The place that query i asks about.
 fn place(i: usize) -> Place {
     match i {
         0 => Place::BledSteam,
@@ -42,28 +57,33 @@ fn place(i: usize) -> Place {
     }
 }
 
-// The pressure there in MPa.
+// The pressure there, in MPa.
 fn pressure(i: usize) -> f64 {
     match i {
-        0 => 0.6,
-        1 => 0.6,
-        _ => 9.0,
+        0 => BLED_P,
+        1 => BLED_P,
+        _ => WATER_P,
     }
 }
 
-// The enthalpy there in kJ/kg: the water takes up what the steam leaves behind.
+// The heat that the steam leaves behind and the water takes up, in kW.
+fn heat() -> f64 {
+    BLED_FLOW * (STEAM_H - DRAIN_H)
+}
+
+// The enthalpy there, in kJ/kg.
 fn enthalpy(i: usize, h_in: f64) -> f64 {
     match i {
-        0 => STEAM,
-        1 => DRAIN,
-        _ => h_in + BLED * (STEAM - DRAIN) / FLOW,
+        0 => STEAM_H,
+        1 => DRAIN_H,
+        _ => h_in + heat() / WATER_FLOW,
     }
 }
 
-// What the heater gives the water, in MW.
+// What the heater gives there: heat, to the water out.
 fn given(i: usize) -> Output {
     match i {
-        2 => Output::Heat(BLED * (STEAM - DRAIN) / 1000.0),
+        2 => Output::Heat(heat() / lines::KW_IN_MW),
         _ => Output::Nothing,
     }
 }
@@ -76,31 +96,30 @@ fn say(place: Place, known: Known, output: Output) {
 }
 
 // The heater stops at a refusal, and says so.
-fn stop(h: Heater, place: Place, number: u64) -> Heater {
+fn stop(heater: Heater, place: Place, number: u64) -> Heater {
     say(place, Known::Refused(number), Output::Nothing);
-    let mut g = h;
-    g.runs = false;
-    g
+    let mut stopped = heater;
+    stopped.runs = false;
+    stopped
 }
 
 // The heater with its water in, whose state is asked for directly.
 pub fn water_in() -> Heater {
     let none = [0u64; 3];
-    let h = Heater {
+    let mut heater = Heater {
         runs: true,
         h_in: 0.0,
         tickets: none,
     };
-    let known = asking::ask(9.0, 413.15);
+    let known = asking::ask(WATER_P, WATER_IN_T);
     match known {
-        Known::State(a) => {
+        Known::State(single) => {
             say(Place::WaterIn, known, Output::Nothing);
-            let properties = a.state;
-            let mut g = h;
-            g.h_in = properties.h;
-            g
+            let properties = single.state;
+            heater.h_in = properties.h;
+            heater
         }
-        Known::Refused(n) => stop(h, Place::WaterIn, n),
+        Known::Refused(number) => stop(heater, Place::WaterIn, number),
     }
 }
 
@@ -108,23 +127,28 @@ pub fn water_in() -> Heater {
 fn post_one(lent: AtDesk, i: usize) -> AtDesk
     requires { ⌜ i < 3 ⌝ }
 {
-    let h = lent.heater;
-    if !h.runs {
+    let mut heater = lent.heater;
+    if !heater.runs {
         return lent;
     }
-    let d = lent.desk;
-    let o = asking::post(d, CALLER, 2, pressure(i), enthalpy(i, h.h_in));
-    let e = o.desk;
-    let ticket = o.ticket;
+    let desk = lent.desk;
+    let posted = asking::post(
+        desk,
+        CALLER,
+        asking::P_H,
+        pressure(i),
+        enthalpy(i, heater.h_in),
+    );
+    let desk = posted.desk;
+    let ticket = posted.ticket;
     match ticket {
         Ticket::Open(number) => {
-            let mut g = h;
-            g.tickets[i] = number;
-            AtDesk { desk: e, heater: g }
+            heater.tickets[i] = number;
+            AtDesk { desk, heater }
         }
-        Ticket::Refused(n) => AtDesk {
-            desk: e,
-            heater: stop(h, place(i), n),
+        Ticket::Refused(number) => AtDesk {
+            desk,
+            heater: stop(heater, place(i), number),
         },
     }
 }
@@ -133,23 +157,23 @@ fn post_one(lent: AtDesk, i: usize) -> AtDesk
 fn collect_one(lent: AtDesk, i: usize) -> AtDesk
     requires { ⌜ i < 3 ⌝ }
 {
-    let h = lent.heater;
-    if !h.runs {
+    let heater = lent.heater;
+    if !heater.runs {
         return lent;
     }
-    let d = lent.desk;
-    let ticket = h.tickets[i];
-    let o = asking::collect(d, CALLER, ticket);
-    let e = o.desk;
-    let known = o.known;
+    let desk = lent.desk;
+    let ticket = heater.tickets[i];
+    let collected = asking::collect(desk, CALLER, ticket);
+    let desk = collected.desk;
+    let known = collected.known;
     match known {
         Known::State(_) => {
             say(place(i), known, given(i));
-            AtDesk { desk: e, heater: h }
+            AtDesk { desk, heater }
         }
-        Known::Refused(n) => AtDesk {
-            desk: e,
-            heater: stop(h, place(i), n),
+        Known::Refused(number) => AtDesk {
+            desk,
+            heater: stop(heater, place(i), number),
         },
     }
 }

@@ -5,10 +5,15 @@ use libc::STDOUT_FILENO;
 use sums::Single;
 use text::Cell;
 
-// Where in the plant a state is.
+// How many kW make one MW.
+pub const KW_IN_MW: f64 = 1000.0;
+
+// Where in the plant a state is. A stage of the turbine, by its number, has two ends: the one of an
+// ideal expansion, which no steam reaches, and its own.
 pub enum Place {
     TurbineInlet,
-    TurbineStage(u64),
+    IdealEnd(u64),
+    StageEnd(u64),
     WaterIn,
     BledSteam,
     Drain,
@@ -22,16 +27,18 @@ pub enum Output {
     Heat(f64),
 }
 
-fn stage_title(stage: u64, out: &mut [u8], at: usize) -> usize {
+// The title of a stage, its number with the byte after it and what else follows.
+fn stage_title(stage: u64, after: u8, rest: &[u8], out: &mut [u8], at: usize) -> usize {
     let n = text::bytes(b"  turbine stage ", out, at);
-    let n = text::decimal(stage, b':', out, n);
-    text::bytes(b" ", out, n)
+    let n = text::decimal(stage, after, out, n);
+    text::bytes(rest, out, n)
 }
 
 fn title(place: Place, out: &mut [u8], at: usize) -> usize {
     match place {
         Place::TurbineInlet => text::bytes(b"  turbine inlet: ", out, at),
-        Place::TurbineStage(stage) => stage_title(stage, out, at),
+        Place::IdealEnd(stage) => stage_title(stage, b' ', b"ideal: ", out, at),
+        Place::StageEnd(stage) => stage_title(stage, b':', b" ", out, at),
         Place::WaterIn => text::bytes(b"  heater water in: ", out, at),
         Place::BledSteam => text::bytes(b"  heater bled steam: ", out, at),
         Place::Drain => text::bytes(b"  heater drain: ", out, at),

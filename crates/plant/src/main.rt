@@ -25,14 +25,12 @@ struct Both {
     heater: Heater,
 }
 
-// The desk after so many turns.
+// The turbine and its desk, so many turns later.
 fn turned(lent: turbine::AtDesk, n: u64) -> turbine::AtDesk {
-    let d = lent.desk;
-    let t = lent.turbine;
-    turbine::AtDesk {
-        desk: asking::turns(d, n),
-        turbine: t,
-    }
+    let desk = lent.desk;
+    let mut later = lent;
+    later.desk = asking::turns(desk, n);
+    later
 }
 
 // The second half of a stage: its real expansion.
@@ -65,57 +63,45 @@ fn stage(
 }
 
 // The turbine posts its first query, and then the heater its three.
-fn post_both(h: Heater, lent: turbine::AtDesk, text: &mut [u8]) -> Both {
+fn post_both(heater: Heater, lent: turbine::AtDesk, text: &mut [u8]) -> Both {
     let lent = turbine::post_ideal(lent, 1, text);
-    let d = lent.desk;
-    let t = lent.turbine;
-    let after = heater::post(heater::AtDesk { desk: d, heater: h });
-    let e = after.desk;
-    let g = after.heater;
+    let desk = lent.desk;
+    let turbine = lent.turbine;
+    let after = heater::post(heater::AtDesk { desk, heater });
+    let desk = after.desk;
+    let heater = after.heater;
     Both {
-        desk: e,
-        turbine: t,
-        heater: g,
+        desk,
+        turbine,
+        heater,
     }
 }
 
 // The turbine collects, and then the heater its three, which is all that it does.
-fn collect_both(b: Both, text: &mut [u8], bits: &mut [u8]) -> turbine::AtDesk {
-    let d = b.desk;
-    let t = b.turbine;
-    let h = b.heater;
-    let lent = turbine::collect_ideal(
-        turbine::AtDesk {
-            desk: d,
-            turbine: t,
-        },
-        1,
-        text,
-        bits,
-    );
-    let e = lent.desk;
-    let u = lent.turbine;
-    let after = heater::collect(heater::AtDesk { desk: e, heater: h });
-    let f = after.desk;
-    turbine::AtDesk {
-        desk: f,
-        turbine: u,
-    }
+fn collect_both(both: Both, text: &mut [u8], bits: &mut [u8]) -> turbine::AtDesk {
+    let desk = both.desk;
+    let turbine = both.turbine;
+    let lent = turbine::collect_ideal(turbine::AtDesk { desk, turbine }, 1, text, bits);
+    let desk = lent.desk;
+    let turbine = lent.turbine;
+    let heater = both.heater;
+    let after = heater::collect(heater::AtDesk { desk, heater });
+    let desk = after.desk;
+    turbine::AtDesk { desk, turbine }
 }
 
 // The turbine's first stage, its first half with the heater's queries on the desk.
 fn first_stage_beside(
-    h: Heater,
+    heater: Heater,
     lent: turbine::AtDesk,
     pace: Pace,
     text: &mut [u8],
     bits: &mut [u8],
 ) -> turbine::AtDesk {
-    let b = post_both(h, lent, text);
-    let d = b.desk;
-    let mut c = b;
-    c.desk = asking::turns(d, pace.after);
-    let lent = collect_both(c, text, bits);
+    let mut both = post_both(heater, lent, text);
+    let desk = both.desk;
+    both.desk = asking::turns(desk, pace.after);
+    let lent = collect_both(both, text, bits);
     second_half(lent, 1, pace, text, bits)
 }
 
@@ -123,36 +109,44 @@ fn first_stage_beside(
 fn finish(lent: turbine::AtDesk, pace: Pace, text: &mut [u8], bits: &mut [u8]) {
     let lent = stage(lent, 2, pace, text, bits);
     let lent = stage(lent, 3, pace, text, bits);
-    let t = lent.turbine;
-    turbine::sum_up(t, text);
+    let turbine = lent.turbine;
+    turbine::sum_up(turbine, text);
 }
 
-// Run 1: the turbine and the heater at one desk.
+// Run 1: the turbine and the heater at one desk. After 1280 turns a query is settled, whoever else posts.
 fn beside_the_heater(text: &mut [u8], bits: &mut [u8]) {
+    io::write_all(
+        STDOUT_FILENO,
+        b"turbine and heater at one desk, 1280 turns between a post and its collect\n",
+    );
     let pace = Pace {
         before: 0,
         after: 1280,
     };
-    let t = turbine::inlet(text, bits);
-    let h = heater::water_in();
+    let turbine = turbine::inlet(text, bits);
+    let heater = heater::water_in();
     let lent = turbine::AtDesk {
         desk: desk::new_desk(),
-        turbine: t,
+        turbine,
     };
-    let lent = first_stage_beside(h, lent, pace, text, bits);
+    let lent = first_stage_beside(heater, lent, pace, text, bits);
     finish(lent, pace, text, bits);
 }
 
-// Run 2: the turbine alone.
+// Run 2: the turbine alone, its turns dealt otherwise.
 fn alone(text: &mut [u8], bits: &mut [u8]) {
+    io::write_all(
+        STDOUT_FILENO,
+        b"turbine alone, 7 turns before each post and 1300 between it and its collect\n",
+    );
     let pace = Pace {
         before: 7,
         after: 1300,
     };
-    let t = turbine::inlet(text, bits);
+    let turbine = turbine::inlet(text, bits);
     let lent = turbine::AtDesk {
         desk: desk::new_desk(),
-        turbine: t,
+        turbine,
     };
     let lent = stage(lent, 1, pace, text, bits);
     finish(lent, pace, text, bits);
@@ -162,18 +156,16 @@ fn alone(text: &mut [u8], bits: &mut [u8]) {
 fn main() {
     let mut text = [0u8; 2048];
     let mut bits = [0u8; 1024];
-    io::write_all(STDOUT_FILENO, b"turbine and heater at one desk\n");
     beside_the_heater(&mut text, &mut bits);
     let mut text_alone = [0u8; 2048];
     let mut bits_alone = [0u8; 1024];
-    io::write_all(STDOUT_FILENO, b"turbine alone, its turns dealt otherwise\n");
     alone(&mut text_alone, &mut bits_alone);
     let same_text = check::same(&text, &text_alone);
     let same_bits = check::same(&bits, &bits_alone);
     if same_text && same_bits {
         io::write_all(
             STDOUT_FILENO,
-            b"the turbine's lines are the same in both runs, and so is every bit of its states\n",
+            b"the turbine's lines are the same in both runs, and so is every bit of its states: nothing of the heater's got into them\n",
         );
     } else {
         io::write_all(STDOUT_FILENO, b"the turbine's lines differ\n");

@@ -1,5 +1,6 @@
 //! The text of the program `plant`: a turbine of three stages and a feedwater heater at
-//! one desk, then the turbine alone with its turns dealt otherwise.
+//! one desk, then the turbine alone with its turns dealt otherwise, then whether any of the
+//! turbine's lines or states changed.
 //!
 //! Pressures in MPa with 3 decimals, temperatures in K, printed in degC with 2, enthalpies
 //! in kJ/kg with 2, flows in kg/s, power and heat in MW with 3. Lines stand in the order in
@@ -31,20 +32,23 @@ const BLED_FLOW: f64 = 3.0;
 const BLED_STEAM: (f64, f64) = (0.6, 2900.0);
 const DRAIN: (f64, f64) = (0.6, 650.0);
 
+const TOGETHER: &str = "turbine and heater at one desk, 1280 turns between a post and its collect";
+const ALONE: &str = "turbine alone, 7 turns before each post and 1300 between it and its collect";
+const SAME: &str =
+    "the turbine's lines are the same in both runs, and so is every bit of its states: \
+     nothing of the heater's got into them";
+const DIFFERENT: &str = "the turbine's lines differ";
+
 /// Both runs, then whether the turbine could tell them apart.
 pub fn listing() -> String {
     let (first_text, first) = together();
     let (second_text, second) = alone();
-    let verdict = if first.had_the_same(&second) {
-        "the turbine's lines are the same in both runs, and so is every bit of its states"
-    } else {
-        "the turbine's lines differ"
-    };
+    let verdict = if first.had_the_same(&second) { SAME } else { DIFFERENT };
     format!("{first_text}{second_text}{verdict}\n")
 }
 
 fn together() -> (String, Turbine) {
-    let mut plant = Plant::new("turbine and heater at one desk");
+    let mut plant = Plant::new(TOGETHER);
     let mut turbine = Turbine::at_inlet(&mut plant);
     let mut heater = Heater::at_inlet(&mut plant);
     turbine.post(&mut plant);
@@ -62,7 +66,7 @@ fn together() -> (String, Turbine) {
 }
 
 fn alone() -> (String, Turbine) {
-    let mut plant = Plant::new("turbine alone, its turns dealt otherwise");
+    let mut plant = Plant::new(ALONE);
     let mut turbine = Turbine::at_inlet(&mut plant);
     while turbine.goes_on() {
         plant.turn(7);
@@ -193,8 +197,10 @@ impl Turbine {
         !self.model.stopped && self.powers.len() < STAGE_PRESSURES.len()
     }
 
-    fn stage(&self) -> String {
-        format!("turbine stage {}", self.powers.len() + 1)
+    /// What the stage's next query asks for: its end without losses, then its end.
+    fn end(&self) -> String {
+        let ideal = if self.without_losses().is_none() { " ideal" } else { "" };
+        format!("turbine stage {}{ideal}", self.powers.len() + 1)
     }
 
     /// The state in which the steam enters the stage.
@@ -219,20 +225,21 @@ impl Turbine {
 
     fn post(&mut self, plant: &mut Plant) {
         if self.goes_on() {
-            self.ticket = self.model.post(plant, &self.stage(), self.query());
+            self.ticket = self.model.post(plant, &self.end(), self.query());
         }
     }
 
     fn collect(&mut self, plant: &mut Plant) {
         let Some(ticket) = self.ticket.take() else { return };
-        let stage = self.stage();
-        let Some(state) = self.model.collect(plant, &stage, ticket) else { return };
+        let end = self.end();
+        let Some(state) = self.model.collect(plant, &end, ticket) else { return };
+        let mut line = line(&end, &state);
         if self.without_losses().is_some() {
             let power = (STEAM_FLOW * (self.entering().properties.h - state.properties.h)) / 1000.0;
-            let line = line(&stage, &state);
-            self.model.say(plant, &format!("{line}, shaft power {} MW", fixed(power, 3)));
+            line.push_str(&format!(", shaft power {} MW", fixed(power, 3)));
             self.powers.push(power);
         }
+        self.model.say(plant, &line);
         self.states.push(state);
     }
 
@@ -313,30 +320,61 @@ mod tests {
         before.rsplit(' ').next().unwrap().parse().unwrap()
     }
 
+    /// The lines of a stage: that of its end without losses and that of its end.
+    fn ends<'a>(lines: &'a [String], stage: usize) -> (&'a str, &'a str) {
+        (&lines[2 * stage - 1], &lines[2 * stage])
+    }
+
     #[test]
     fn lines_come_in_the_order_in_which_things_become_known() {
-        let names: Vec<String> =
-            listing().lines().map(|line| line.split(':').next().unwrap().into()).collect();
+        let text = listing();
+        let names: Vec<&str> = text
+            .lines()
+            .map(|line| if line.starts_with(' ') { line.split(':').next().unwrap() } else { line })
+            .collect();
         let expected = [
-            "turbine and heater at one desk",
+            "turbine and heater at one desk, 1280 turns between a post and its collect",
             "  turbine inlet",
             "  heater water in",
+            "  turbine stage 1 ideal",
             "  heater bled steam",
             "  heater drain",
             "  heater water out",
             "  turbine stage 1",
+            "  turbine stage 2 ideal",
             "  turbine stage 2",
+            "  turbine stage 3 ideal",
             "  turbine stage 3",
             "  turbine in all",
-            "turbine alone, its turns dealt otherwise",
+            "turbine alone, 7 turns before each post and 1300 between it and its collect",
             "  turbine inlet",
+            "  turbine stage 1 ideal",
             "  turbine stage 1",
+            "  turbine stage 2 ideal",
             "  turbine stage 2",
+            "  turbine stage 3 ideal",
             "  turbine stage 3",
             "  turbine in all",
-            "the turbine's lines are the same in both runs, and so is every bit of its states",
+            "the turbine's lines are the same in both runs, and so is every bit of its states: \
+             nothing of the heater's got into them",
         ];
         assert_eq!(names, expected);
+        assert!(text.ends_with(" them\n"));
+    }
+
+    #[test]
+    fn a_stage_falls_by_its_efficiency_of_the_fall_without_losses() {
+        let lines = lines_of(&listing(), "turbine");
+        let h = |line: &str| number(line, " kJ/kg");
+        let mut entering = h(&lines[0]);
+        for (stage, p) in [(1, 4.0), (2, 2.0), (3, 1.0)] {
+            let (ideal, real) = ends(&lines, stage);
+            assert!(ideal.starts_with(&format!("  turbine stage {stage} ideal: ")));
+            assert!(ideal.ends_with(" kJ/kg"), "{ideal}");
+            assert_eq!((number(ideal, " MPa"), number(real, " MPa")), (p, p));
+            assert!((entering - h(real) - 0.88 * (entering - h(ideal))).abs() < 0.03);
+            entering = h(real);
+        }
     }
 
     #[test]
@@ -364,10 +402,11 @@ mod tests {
     fn powers_add_up_and_the_heater_gains_what_the_steam_loses() {
         let text = listing();
         let lines = lines_of(&text, "turbine");
-        let powers: Vec<f64> = lines[1..5].iter().map(|line| number(line, " MW")).collect();
-        assert!((powers[0] + powers[1] + powers[2] - powers[3]).abs() < 0.002);
-        let lost = number(&lines[0], " kJ/kg") - number(&lines[3], " kJ/kg");
-        assert!((50.0 * lost / 1000.0 - powers[3]).abs() < 0.002);
+        let powers = [1, 2, 3].map(|stage| number(ends(&lines, stage).1, " MW"));
+        let in_all = number(&lines[7], " MW");
+        assert!((powers[0] + powers[1] + powers[2] - in_all).abs() < 0.002);
+        let lost = number(&lines[0], " kJ/kg") - number(ends(&lines, 3).1, " kJ/kg");
+        assert!((50.0 * lost / 1000.0 - in_all).abs() < 0.002);
         let lines = lines_of(&text, "heater");
         let gained = number(&lines[3], " kJ/kg") - number(&lines[0], " kJ/kg");
         assert!((50.0 * gained / 1000.0 - number(&lines[3], " MW")).abs() < 0.002);
@@ -410,6 +449,17 @@ mod tests {
         for (x, decimals, text) in cases {
             assert_eq!(fixed(x, decimals), text);
         }
+    }
+
+    #[test]
+    fn a_refused_end_without_losses_is_named_so() {
+        let mut plant = Plant::new("title");
+        let mut turbine = Turbine::at_inlet(&mut plant);
+        turbine.model.caller = 8;
+        turbine.post(&mut plant);
+        turbine.collect(&mut plant);
+        assert!(plant.text.ends_with(" kJ/kg\n  turbine stage 1 ideal: refused 9\n"));
+        assert!(!turbine.goes_on());
     }
 
     #[test]
