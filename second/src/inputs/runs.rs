@@ -125,9 +125,9 @@ impl Run {
         match self.random.below(39) {
             0..=13 => self.post(),
             14..=22 => self.turn(),
-            23..=27 => self.peek(),
+            23..=27 => self.peek_or_withdraw(3),
             28..=34 => self.collect(),
-            35 | 36 => self.withdraw(),
+            35 | 36 => self.peek_or_withdraw(5),
             _ => self.show(),
         }
     }
@@ -153,10 +153,11 @@ impl Run {
         self.call([2, caller, turns, b, c]);
     }
 
-    fn peek(&mut self) {
+    /// Whatever the ticket's row holds.
+    fn peek_or_withdraw(&mut self, op: u64) {
         let (caller, ticket) = self.ticket(|_| true);
         let [_, b, c] = self.unused();
-        self.call([3, caller, ticket, b, c]);
+        self.call([op, caller, ticket, b, c]);
     }
 
     fn collect(&mut self) {
@@ -164,12 +165,6 @@ impl Run {
         let (caller, ticket) = self.ticket(|row| !ready || row.halvings == HALVINGS);
         let [_, b, c] = self.unused();
         self.call([4, caller, ticket, b, c]);
-    }
-
-    fn withdraw(&mut self) {
-        let (caller, ticket) = self.ticket(|_| true);
-        let [_, b, c] = self.unused();
-        self.call([5, caller, ticket, b, c]);
     }
 
     fn show(&mut self) {
