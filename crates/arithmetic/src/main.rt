@@ -2,28 +2,6 @@
 // A record is 16 bytes, two little-endian words: the bits of x, and k, whose low byte is an exponent
 // as a signed byte. At most 65,536 bytes are read; a record cut short is passed over. A line a record:
 // x, k, x^k, root, fourth root and logarithm of x, and 1 where x is finite.
-ghost use Prim.Native.Nat.{_+_, _<_, _≤_};
-ghost use lib.ListN.{length};
-
-fn wide(b: u8) -> u64
-    ensures { λ r. ⌜ r < 256 ⌝ }
-{
-    b as u64
-}
-
-// The little-endian word of eight bytes from a place on.
-fn word(s: &[u8], at: usize) -> u64
-    requires { ⌜ at + 8 ≤ length (now s) ⌝ }
-{
-    let mut w = 0u64;
-    let mut k = 8usize;
-    while 0 < k {
-        k -= 1;
-        w = w % 0x100_0000_0000_0000 * 256 + wide(s[at + k]);
-    }
-    w
-}
-
 // A byte as a signed one.
 fn signed(b: u64) -> i8 {
     let low = b % 256;
@@ -76,7 +54,10 @@ fn print_lines(s: &[u8]) {
     let n = s.len() / 16;
     let mut k = 0usize;
     while k < n {
-        print_line(arith::float_of(word(s, k * 16)), word(s, k * 16 + 8));
+        print_line(
+            arith::float_of(sheet::word(s, 2 * k)),
+            sheet::word(s, 2 * k + 1),
+        );
         k += 1;
     }
 }

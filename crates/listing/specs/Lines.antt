@@ -1,5 +1,5 @@
 -- The lines of the sheet programs, as bytes of ASCII: columns with a blank between them, and a newline at the end. Definitions only.
-use Prim.Native.Nat.{ℕ, zero, suc, _+_, _*_, _/_}
+use Prim.Native.Nat.{ℕ, _+_, _*_, _/_}
 use mathlib.Core.Bool.{Bool, true, false}
 use mathlib.Core.List.{List, [], _∷_, _++_}
 use lib.ListN.{length, getD}
@@ -8,7 +8,7 @@ use Rattle.text.specs.Texts.{columnOf, blank, newline, numberColumn, joined}
 use Rattle.text.specs.declared.Cell.{Cell}
 use Rattle.text.specs.declared.Cell.the-variants as Cell
 use Rattle.sheet.specs.declared.rows.Point.{Point}
-use Rattle.sums.specs.Answers.{numberOf, regionOf, markOf, valuesOf}
+use Rattle.sums.specs.Answers.{numberOf, regionOf, valuesOf}
 use Rattle.sums.specs.Queries.{answerOf}
 use Rattle.sums.specs.Quotients.{quotientOf}
 use Rattle.sums.specs.declared.Answer.{Answer}

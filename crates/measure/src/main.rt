@@ -147,6 +147,7 @@ fn main() {
     let mut buffer = [0u8; 1024];
     let got = io::read_full(0, &mut buffer);
     if got == 0 {
+        io::write_all(1, b"no operation\n");
         return;
     }
     let operation = buffer[0];

@@ -1,7 +1,7 @@
 -- Texts written one behind the other by a loop: the one law of the loops that write. Assumes nothing.
 use Prim.Native.Nat.{ℕ, _+_, _≤_}
-use mathlib.Core.Path.{_≡_, sym, ap}
-use mathlib.Core.List.{List, _++_}
+use mathlib.Core.Path.{sym, ap}
+use mathlib.Core.List.{List}
 use native.Mathlib.Nat.{le-antisymm}
 use native.Mathlib.Numerals.{add-one}
 use Rattle.text.specs.Room.{Written}

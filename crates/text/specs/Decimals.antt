@@ -1,7 +1,7 @@
 -- Numbers for people: an f64 in plain decimals, as many as asked for and at most three, rounded to the nearest on its exact value, a half away from zero.
 -- 1.005, whose f64 lies below it, is `1.00` with two decimals, and 0.125 is `0.13`. Definitions only.
 use Prim.Native.Nat.{ℕ, zero, suc, _+_, _*_, _/_, _%_, _^_, min}
-use mathlib.Core.Bool.{Bool, true, false, cond}
+use mathlib.Core.Bool.{Bool, false, cond}
 use mathlib.Core.List.{List, [], _∷_, _++_}
 use lib.Dec.{ltb}
 use lib.Ieee.{Float, nan, inf, fin, up, down}

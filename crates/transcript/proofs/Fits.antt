@@ -1,13 +1,14 @@
 -- The text of a record fits the room that `replay` lends, 8,192 bytes, so that none is cut. Assumes nothing.
-use Prim.Native.Nat.{ℕ, _+_, _≤_}
+use Prim.Native.Nat.{ℕ, _≤_}
 use mathlib.Core.Bool.{Bool, true, false, cond}
 use mathlib.Core.List.{List, []}
 use native.Mathlib.Omega.{arith}
 use lib.ListN.{length, length-append}
-use Rattle.text.specs.Texts.{blank, numberColumn, joined}
+use Rattle.text.specs.Texts.{blank, numberColumn}
 use Rattle.text.specs.declared.Cell.the-variants.{Value}
 use Rattle.text.proofs.Lengths.{digits, column-short, joined-short}
 use Rattle.sums.specs.declared.Single.{Single}
+use Rattle.desk.specs.Search.{bit}
 use Rattle.desk.specs.Model.{row, counted}
 use Rattle.desk.specs.declared.Row.{Row}
 use Rattle.desk.specs.declared.Desk.{Desk}
@@ -17,7 +18,7 @@ use Rattle.transcript.specs.declared.Call.{Call}
 use Rattle.transcript.specs.declared.Call.the-variants.{Post, Peek, Collect, Withdraw}
 use Rattle.transcript.specs.declared.Deed.{Deed}
 use Rattle.transcript.specs.declared.Deed.the-variants as Deed
-use Rattle.transcript.specs.Lines.{nameOf, refusedOf, stateColumns, bitOf, answerOf, callLine, turnsLine, givenLine, badLine, countColumns, deskLine, rowLine, shownLines}
+use Rattle.transcript.specs.Lines.{nameOf, refusedOf, stateColumns, answerOf, callLine, turnsLine, givenLine, badLine, countColumns, deskLine, rowLine, shownLines}
 use Rattle.transcript.specs.Steps.{outcomeOf, turnsOf, textOf}
 
 number-short : (n end : ℕ) → length (numberColumn n end) ≤ 21
@@ -44,7 +45,7 @@ state-short a =
     (omega (
       arith,
       digits (a .region),
-      digits (bitOf (a .verified)),
+      digits (bit (a .verified)),
       column-short (Value (a .p)),
       column-short (Value (a .t)),
       column-short (Value (a .state .v)),

@@ -9,7 +9,7 @@ use Rattle.desk.specs.Model.{newDesk}
 use Rattle.desk.specs.declared.Desk.{Desk}
 use Rattle.transcript.specs.declared.Step.{Step}
 use Rattle.transcript.specs.Records.{deedOf}
-use Rattle.transcript.specs.Steps.{deskAfter, takenBy, Done, standing}
+use Rattle.transcript.specs.Steps.{deskAfter, takenBy, Done, textOf, standing, deedAt, recordText}
 
 -- The record with this number comes next, finds this desk, and starts at this place: all three as the definition of a run has them.
 pub record Next (run : List ℕ) (number at : ℕ) (d : Desk) : Type 0 where
@@ -44,3 +44,12 @@ then-next {run} {number} {at} {d} {r} n x =
           ∙ ap (λ (m : ℕ). drop m (drop at run)) (x .taken ∙ ap (λ (l : List ℕ). takenBy l (deedOf l)) (tail run at))
           ∙ ap (λ (l : List ℕ). drop (takenBy l (deedOf l)) l) (n .rest);
     }
+
+-- what is written for the next record is the definition's own text of it
+pub next-text : {run : List ℕ} {number at : ℕ} {d : Desk} (n : Next run number at d)
+    → textOf number d (deedOf (take (length run - at) (drop at run))) ≡ recordText run (n .before)
+next-text {run} {number} {at} {d} n =
+    let k = n .before in
+    ap (λ (l : List ℕ). textOf number d (deedOf l)) (tail run at ∙ n .rest)
+    ∙ ap (λ (m : ℕ). textOf m d (deedAt run k)) (n .numbered)
+    ∙ ap (λ (e : Desk). textOf (k + 1) e (deedAt run k)) (n .desk)

@@ -1,12 +1,12 @@
 -- The lines of a transcript, as bytes of ASCII: columns with a blank between them, and a newline at the end. Definitions only.
 use Prim.Native.Nat.{ℕ}
-use mathlib.Core.Bool.{Bool, true, false, cond}
+use mathlib.Core.Bool.{cond}
 use mathlib.Core.List.{List, [], _∷_, _++_}
 use lib.Ieee.{Float}
-use lib.ListN.{getD}
 use Rattle.text.specs.Texts.{columnOf, blank, newline, numberColumn, joined}
 use Rattle.text.specs.declared.Cell.the-variants.{Value}
 use Rattle.sums.specs.declared.Single.{Single}
+use Rattle.desk.specs.Search.{bit}
 use Rattle.desk.specs.Model.{row, counted}
 use Rattle.desk.specs.declared.Row.{Row}
 use Rattle.desk.specs.declared.Desk.{Desk}
@@ -37,16 +37,11 @@ refusedOf (Collect caller ticket) n =
     ++ 45 ∷ blank ∷ 45 ∷ blank ∷ 45 ∷ blank ∷ 45 ∷ blank ∷ 45 ∷ blank ∷ 45 ∷ blank ∷ 45 ∷ blank ∷ 45 ∷ blank ∷ 45 ∷ blank ∷ 45 ∷ newline ∷ []
 refusedOf (Withdraw caller ticket) n = numberColumn n newline
 
--- 1 verified, 0 not
-abbrev pub bitOf : Bool → ℕ
-bitOf true = 1
-bitOf false = 0
-
--- region, mark, p, T, v, u, h, s, cp, w
+-- region, mark (1 verified, 0 not), p, T, v, u, h, s, cp, w
 unfoldable pub stateColumns : Single → List ℕ
 stateColumns a =
     numberColumn (a .region) blank
-    ++ numberColumn (bitOf (a .verified)) blank
+    ++ numberColumn (bit (a .verified)) blank
     ++ floatColumn (a .p) blank
     ++ floatColumn (a .t) blank
     ++ floatColumn (a .state .v) blank

@@ -72,7 +72,7 @@ takenBy rest Given = deskBytes
 takenBy rest Shown = recordBytes
 takenBy rest Bad = length rest
 
--- What a record promises of the desk d and of the run: r is the desk afterwards and the bytes taken.
+-- What `play` promises beside the text: r has the desk that the record leaves, where it finds d, and how many bytes it takes.
 pub record Done (rest : List ℕ) (d : Desk) (r : Step) : Type 0 where
   pub desk : r .desk ≡ deskAfter rest d (deedOf rest)
   pub taken : r .taken ≡ takenBy rest (deedOf rest)
@@ -108,6 +108,10 @@ standing run (suc k) = onward (standing run k)
 abbrev pub deedAt : List ℕ → ℕ → Deed
 deedAt run k = deedOf (standing run k .rest)
 
--- what is printed of the first n records of a run, numbered from 1. The run is over when nothing is left behind a record.
+-- the text of record k, which has number k + 1
+abbrev pub recordText : List ℕ → ℕ → List ℕ
+recordText run k = textOf (k + 1) (standing run k .desk) (deedAt run k)
+
+-- what is printed of the first n records of a run. The run is over when nothing is left behind a record.
 unfoldable pub transcript : List ℕ → ℕ → List ℕ
-transcript run n = joined (λ k. textOf (k + 1) (standing run k .desk) (deedAt run k)) n
+transcript run n = joined (recordText run) n

@@ -9,8 +9,8 @@ ghost use mathlib.Core.Path.{_≡_};
 ghost use mathlib.Core.List.{_++_};
 ghost use Rattle.text.specs.Room.{Written};
 ghost use Rattle.text.specs.Texts.{blank, numberColumn, joined};
-ghost use Rattle.desk.specs.Model.{row};
-ghost use Rattle.transcript.specs.Lines.{floatColumn, bitOf, nameOf, refusedOf, stateColumns, answerOf, callLine, turnsLine, countColumns, deskLine, rowLine, shownLines};
+ghost use Rattle.desk.specs.Search.{bit};
+ghost use Rattle.transcript.specs.Lines.{floatColumn, nameOf, refusedOf, stateColumns, answerOf, callLine, turnsLine, countColumns, deskLine, rowLine, shownLines};
 
 // Writes a line's number and the words behind it.
 pub(crate) fn opened(number: u64, words: &[u8], out: &mut [u8]) -> usize
@@ -29,7 +29,7 @@ fn float(x: f64, end: u8, out: &mut [u8], at: usize) -> usize
 
 // A mark as a number.
 fn bit(mark: bool) -> u64
-    ensures { λ r. ⌜ r ≡ bitOf mark ⌝ }
+    ensures { λ r. ⌜ r ≡ bit mark ⌝ }
 {
     if mark { 1 } else { 0 }
 }

@@ -332,32 +332,26 @@ mod tests {
             .lines()
             .map(|line| if line.starts_with(' ') { line.split(':').next().unwrap() } else { line })
             .collect();
-        let expected = [
-            "turbine and heater at one desk, 1280 turns between a post and its collect",
-            "  turbine inlet",
-            "  heater water in",
-            "  turbine stage 1 ideal",
-            "  heater bled steam",
-            "  heater drain",
-            "  heater water out",
+        let stages = [
             "  turbine stage 1",
             "  turbine stage 2 ideal",
             "  turbine stage 2",
             "  turbine stage 3 ideal",
             "  turbine stage 3",
             "  turbine in all",
-            "turbine alone, 7 turns before each post and 1300 between it and its collect",
-            "  turbine inlet",
-            "  turbine stage 1 ideal",
-            "  turbine stage 1",
-            "  turbine stage 2 ideal",
-            "  turbine stage 2",
-            "  turbine stage 3 ideal",
-            "  turbine stage 3",
-            "  turbine in all",
-            "the turbine's lines are the same in both runs, and so is every bit of its states: \
-             nothing of the heater's got into them",
         ];
+        let expected = [
+            &["turbine and heater at one desk, 1280 turns between a post and its collect"][..],
+            &["  turbine inlet", "  heater water in", "  turbine stage 1 ideal"],
+            &["  heater bled steam", "  heater drain", "  heater water out"],
+            &stages,
+            &["turbine alone, 7 turns before each post and 1300 between it and its collect"],
+            &["  turbine inlet", "  turbine stage 1 ideal"],
+            &stages,
+            &["the turbine's lines are the same in both runs, and so is every bit of its states: \
+                nothing of the heater's got into them"],
+        ]
+        .concat();
         assert_eq!(names, expected);
         assert!(text.ends_with(" them\n"));
     }

@@ -1,6 +1,6 @@
 -- `transcript::desks::rows_known` meets its contract: each row passed says 1 or 0, and the first that does not settles it. Assumes nothing.
 use Prim.Native.Nat.{_-_, _≤_}
-use mathlib.Core.Bool.{true, _&&_}
+use mathlib.Core.Bool.{true}
 use mathlib.Core.Path.{_≡_, refl, sym}
 use native.Mathlib.Omega.{arith}
 use borrow.Author.Needs.{needs}

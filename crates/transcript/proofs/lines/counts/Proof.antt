@@ -1,10 +1,9 @@
 -- `transcript::lines::counts` meets its contract: a loop of seven counts, and the eighth. Assumes nothing.
-use Prim.Native.Nat.{ℕ, _-_, _≤_}
-use mathlib.Core.Path.{refl, sym, ap}
+use Prim.Native.Nat.{_-_, _≤_}
 use native.Mathlib.Omega.{arith}
 use Rattle.text.specs.Room.{Written}
-use Rattle.text.specs.Texts.{blank, newline, numberColumn, joined}
-use Rattle.text.proofs.Pieces.{then, said, kept}
+use Rattle.text.specs.Texts.{blank, numberColumn, joined}
+use Rattle.text.proofs.Pieces.{then, kept}
 use Rattle.text.proofs.Joined.{begun, turned, ended}
 use Rattle.desk.specs.Model.{counted}
 use Rattle.transcript.specs.Lines.{countColumns}

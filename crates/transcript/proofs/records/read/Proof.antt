@@ -1,9 +1,7 @@
 -- `transcript::records::read` meets its contract: its tests are the definition's own. Assumes nothing.
-use Prim.Native.Nat.{ℕ}
-use mathlib.Core.Path.{_≡_, sym, ap, _∙_}
+use mathlib.Core.Path.{sym, _∙_}
 use borrow.Author.Tests.{eq-eqb, ne-eqb, le-leb, lt-leb}
-use Rattle.sheet.specs.Words.{wordOf}
-use Rattle.transcript.specs.Records.{plainOf, deedOf}
+use Rattle.transcript.specs.Records.{deedOf}
 use borrow.Author.Needs.{needs}
 use Rattle.transcript.proofs.records.read.Statement.{statement}
 use Rattle.transcript.proofs.records.read.Tie as tie
