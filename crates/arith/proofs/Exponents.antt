@@ -7,10 +7,10 @@ use native.Mathlib.Numerals.{add-one}
 use borrow.Author.Tests.{ltb-true}
 use lib.IntN.{ℤ, pos, negsuc, natAbs, _-ℤ_}
 use lib.Signed.{ltZ, nonNeg}
-use lib.Dec.{T}
+use lib.Dec.{T, leb}
 use lib.Ieee.{Float}
-use mir.Syntax.{w8, w32}
-use mir.Val.{SFits, toZ, ofZ}
+use mir.Syntax.{Width, w16, w32}
+use mir.Val.{hbits, SFits, toZ, ofZ}
 use mir.Facts.{toZ-ofZ, sfits-widen}
 use Rattle.arith.specs.F64.{f64, _⊗_, _⊘_}
 use Rattle.arith.specs.Power.{raised, powerOf}
@@ -25,12 +25,12 @@ never a h = omega (arith, ltb-true a 0 h)
 flip : true ≡ false → ⊥
 flip e = subst (λ (t : Bool). T t) e tt
 
--- an `i8` read as an `i32`
-pub wide : (k : ℤ) → SFits w8 k → toZ w32 (ofZ w32 (toZ w8 (ofZ w8 k))) ≡ k
-wide k f = ap (λ (z : ℤ). toZ w32 (ofZ w32 z)) (toZ-ofZ f) ∙ toZ-ofZ (sfits-widen {w = w8} {w′ = w32} tt f)
+-- a signed number read at a wider width
+pub wide : (w w′ : Width) (k : ℤ) → T (leb (hbits w) (hbits w′)) → SFits w k → toZ w′ (ofZ w′ (toZ w (ofZ w k))) ≡ k
+wide w w′ k t f = ap (λ (z : ℤ). toZ w′ (ofZ w′ z)) (toZ-ofZ f) ∙ toZ-ofZ (sfits-widen t f)
 
 -- ---- k and -k of an exponent below 0
-pub negated-fits : (k : ℤ) → SFits w8 k → ltZ k (pos 0) ≡ true → SFits w32 (pos 0 -ℤ k)
+pub negated-fits : (k : ℤ) → SFits w16 k → ltZ k (pos 0) ≡ true → SFits w32 (pos 0 -ℤ k)
 negated-fits (pos a) f h = absurd (never a h)
 negated-fits (negsuc a) f h = record { sfits = omega (arith, f .sfits) }
 

@@ -16,7 +16,7 @@ fn raised(x: f64, k: u32) -> f64
 }
 
 // x^k for a whole k: 1 for k = 0, and 1 / x^(-k) for a negative one.
-pub fn power(x: f64, k: i8) -> f64
+pub fn power(x: f64, k: i16) -> f64
     ensures { λ r. ⌜ r ≡ powerOf x k ⌝ }
 {
     if k < 0 {

@@ -3,12 +3,12 @@
 // as a signed byte. At most 65,536 bytes are read; a record cut short is passed over. A line a record:
 // x, k, x^k, root, fourth root and logarithm of x, and 1 where x is finite.
 // A byte as a signed one.
-fn signed(b: u64) -> i8 {
+fn signed(b: u64) -> i16 {
     let low = b % 256;
     if low < 128 {
-        low as i8
+        low as i16
     } else {
-        ((low as i32) - 256) as i8
+        low as i16 - 256
     }
 }
 

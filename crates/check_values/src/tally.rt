@@ -19,7 +19,7 @@ impl Tally {
     }
 
     // Writes the line of a value that the paper prints as 0.DIGITS · 10^k, and counts it.
-    pub fn line(self, label: &[u8], computed: f64, digits: u64, k: i8) -> Self {
+    pub fn line(self, label: &[u8], computed: f64, digits: u64, k: i16) -> Self {
         let unit = unit_of(digits);
         let found = nearest_whole(
             computed / arith::power(10.0, k) * std::num::nearest_u64_to_f64(unit),
@@ -66,7 +66,7 @@ fn nearest_whole(x: f64) -> u64 {
 }
 
 // Writes a space and the number n/unit · 10^k.
-fn print_number(n: u64, unit: u64, k: i8)
+fn print_number(n: u64, unit: u64, k: i16)
     requires { ⌜ 0 < unit ⌝ }
 {
     io::write_all(1, b" ");
@@ -85,7 +85,7 @@ fn print_fraction(n: u64) {
 }
 
 // Writes k with a minus sign where it is below 0.
-fn print_signed(k: i8) {
+fn print_signed(k: i16) {
     if k < 0 {
         io::write_all(1, b"-");
         io::print_decimal(1, (0 - (k as i32)) as u64);

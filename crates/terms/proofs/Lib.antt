@@ -1,5 +1,4 @@
 pub mod Only
 pub mod Exponents
-pub mod Carry
-pub mod RowTerms
 pub mod Table
+pub mod Terms

@@ -1,4 +1,2 @@
 pub mod Sum
 pub mod Six
-pub mod Carry
-pub mod Stored

@@ -1,13 +1,12 @@
 // Sums over the tables of the papers: terms (n · A^I) · B^J added in table order, with the derivatives
-// asked for (specs/Sum.antt). A table is lent as three slices, its exponents as printed.
-mod derivatives;
-mod powers;
-mod rows;
-mod stored;
-mod sums;
+// asked for (specs/Sum.antt). A table is lent as three slices, its exponents as printed, and walked in
+// order.
+mod row;
+mod walk;
 
-pub use derivatives::six_sums;
-pub use sums::sum;
+pub use walk::six_sums;
+pub use walk::slope;
+pub use walk::sum;
 
 // A sum and its derivatives by A and B.
 pub struct Six {

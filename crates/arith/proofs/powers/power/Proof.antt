@@ -5,7 +5,7 @@ use lib.IntN.{ℤ, pos, natAbs, _-ℤ_}
 use lib.Signed.{ltZ, nonNeg}
 use lib.Dec.{T}
 use lib.Ieee.{binary64, ofBits}
-use mir.Syntax.{w8, w32}
+use mir.Syntax.{w16, w32}
 use mir.Val.{SFits, Fits, toZ, ofZ}
 use mir.Facts.{toZ-ofZ, sfits-widen, fits-natAbs}
 use borrow.Author.Needs.{needs}
@@ -16,7 +16,7 @@ use Rattle.arith.proofs.Exponents.{wide, negated-fits, negated-natural,
 use Rattle.arith.proofs.powers.power.Statement.{statement}
 use Rattle.arith.proofs.powers.power.Tie as tie
 
-read : (c : tie.Start) → toZ w8 (ofZ w8 (c .args .k)) ≡ c .args .k
+read : (c : tie.Start) → toZ w16 (ofZ w16 (c .args .k)) ≡ c .args .k
 read c = toZ-ofZ (c .fits .k)
 
 below : (c : tie.Then1) → ltZ (c .before .args .k) (pos 0) ≡ true
@@ -26,13 +26,13 @@ above : (c : tie.Else1) → ltZ (c .before .args .k) (pos 0) ≡ false
 above c = subst (λ (z : ℤ). ltZ z (pos 0) ≡ false) (read (c .before)) (c .if1 .left)
 
 cast-raised : tie.Need-cast-raised
-cast-raised c = subst (λ (z : ℤ). SFits w32 z) (sym (read (c .before))) (sfits-widen {w = w8} {w′ = w32} tt (c .before .fits .k))
+cast-raised c = subst (λ (z : ℤ). SFits w32 z) (sym (read (c .before))) (sfits-widen {w = w16} {w′ = w32} tt (c .before .fits .k))
 
 sub-raised : tie.Need-sub-raised
-sub-raised c = subst (λ (z : ℤ). SFits w32 (pos 0 -ℤ z)) (sym (wide (c .before .args .k) (c .before .fits .k))) (negated-fits (c .before .args .k) (c .before .fits .k) (below c))
+sub-raised c = subst (λ (z : ℤ). SFits w32 (pos 0 -ℤ z)) (sym (wide w16 w32 (c .before .args .k) tt (c .before .fits .k))) (negated-fits (c .before .args .k) (c .before .fits .k) (below c))
 
-negated : (c : tie.Then1) → toZ w32 (ofZ w32 (pos 0 -ℤ toZ w32 (ofZ w32 (toZ w8 (ofZ w8 (c .before .args .k)))))) ≡ pos 0 -ℤ c .before .args .k
-negated c = toZ-ofZ (sub-raised c) ∙ ap (λ (z : ℤ). pos 0 -ℤ z) (wide (c .before .args .k) (c .before .fits .k))
+negated : (c : tie.Then1) → toZ w32 (ofZ w32 (pos 0 -ℤ toZ w32 (ofZ w32 (toZ w16 (ofZ w16 (c .before .args .k)))))) ≡ pos 0 -ℤ c .before .args .k
+negated c = toZ-ofZ (sub-raised c) ∙ ap (λ (z : ℤ). pos 0 -ℤ z) (wide w16 w32 (c .before .args .k) tt (c .before .fits .k))
 
 cast-raised-2 : tie.Need-cast-raised-2
 cast-raised-2 c =
@@ -45,7 +45,7 @@ raised-requires c κs = search needs
 cast-raised-3 : tie.Need-cast-raised-3
 cast-raised-3 c =
     subst (λ (z : ℤ). T (nonNeg z) × Fits w32 (natAbs z)) (sym (read (c .before)))
-    (natural (c .before .args .k) (above c), fits-natAbs {w = w8} {w′ = w32} tt (c .before .fits .k))
+    (natural (c .before .args .k) (above c), fits-natAbs {w = w16} {w′ = w32} tt (c .before .fits .k))
 
 raised-requires-2 : tie.Need-raised-requires-2
 raised-requires-2 c κs = search needs

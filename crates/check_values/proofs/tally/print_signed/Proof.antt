@@ -3,7 +3,7 @@ use mathlib.Core.Path.{_≡_}
 use mathlib.Core.Bool.{true, false}
 use lib.IntN.{pos, _-ℤ_}
 use lib.Signed.{ltZ}
-use mir.Syntax.{w8, w32, w64}
+use mir.Syntax.{w16, w32, w64}
 use mir.Val.{SFits, toZ, ofZ}
 use mir.Facts.{toZ-ofZ, sfits-widen, fits-natAbs}
 use borrow.Author.Needs.{needs}
@@ -11,7 +11,7 @@ use Rattle.arith.proofs.Exponents.{wide, negated-fits, negated-natural, natural
 use Rattle.check_values.proofs.tally.print_signed.Statement.{statement}
 use Rattle.check_values.proofs.tally.print_signed.Tie as tie
 
-read : (c : tie.Start) → toZ w8 (ofZ w8 (c .args .k)) ≡ c .args .k
+read : (c : tie.Start) → toZ w16 (ofZ w16 (c .args .k)) ≡ c .args .k
 read c = toZ-ofZ (c .fits .k)
 
 below : (c : tie.Then1) → ltZ (c .before .args .k) (pos 0) ≡ true
@@ -30,21 +30,21 @@ write-all-requires : tie.Need-write-all-requires
 write-all-requires c κs = search needs
 
 cast-print-decimal : tie.Need-cast-print-decimal
-cast-print-decimal c = rw (read (c .before .before .before)) (sfits-widen {w = w8} {w′ = w32} tt (c .before .before .before .fits .k))
+cast-print-decimal c = rw (read (c .before .before .before)) (sfits-widen {w = w16} {w′ = w32} tt (c .before .before .before .fits .k))
 
 sub-print-decimal : tie.Need-sub-print-decimal
-sub-print-decimal c = rw (wide _ (c .before .before .before .fits .k)) (minus (c .before .before))
+sub-print-decimal c = rw (wide w16 w32 _ tt (c .before .before .before .fits .k)) (minus (c .before .before))
 
 cast-print-decimal-2 : tie.Need-cast-print-decimal-2
 cast-print-decimal-2 c =
-    rw (wide _ (c .before .before .before .fits .k), toZ-ofZ (minus (c .before .before)))
+    rw (wide w16 w32 _ tt (c .before .before .before .fits .k), toZ-ofZ (minus (c .before .before)))
     (negated-natural (c .before .before .before .args .k) (below (c .before .before)), fits-natAbs {w = w32} {w′ = w64} tt (minus (c .before .before)))
 
 print-decimal-requires : tie.Need-print-decimal-requires
 print-decimal-requires c κs = search needs
 
 cast-print-decimal-3 : tie.Need-cast-print-decimal-3
-cast-print-decimal-3 c = rw (read (c .before)) (natural (c .before .args .k) (above c), fits-natAbs {w = w8} {w′ = w64} tt (c .before .fits .k))
+cast-print-decimal-3 c = rw (read (c .before)) (natural (c .before .args .k) (above c), fits-natAbs {w = w16} {w′ = w64} tt (c .before .fits .k))
 
 print-decimal-requires-2 : tie.Need-print-decimal-requires-2
 print-decimal-requires-2 c κs = search needs
