@@ -7,4 +7,3 @@ pub mod Whole
 pub mod Digits
 pub mod Nearest
 pub mod Logarithm
-pub mod Worked

@@ -4,3 +4,4 @@ pub mod Bits
 pub mod Power
 pub mod Root
 pub mod Log
+pub mod Coefficients

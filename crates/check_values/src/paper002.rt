@@ -6,14 +6,14 @@ use backward::t1_ph;
 use backward::t1_ps;
 use backward::t2_ph;
 use backward::t2_ps;
-use basic::Region1;
-use basic::Region2;
-use basic::Region5;
-use basic::p_2bc;
-use basic::p_b23;
-use basic::ps;
-use basic::t_b23;
-use basic::ts;
+use liquid::Region1;
+use saturation::p_2bc;
+use saturation::p_b23;
+use saturation::ps;
+use saturation::t_b23;
+use saturation::ts;
+use vapour::Region2;
+use vapour::Region5;
 
 // All of them, in the paper's order.
 pub fn tables(tally: Tally) -> Tally {

@@ -1,14 +1,14 @@
 // For counting instructions (bench/count): works the operation that the first byte of standard input
 // names once for each byte behind it, with another argument each time, and says that it ended.
 
-use basic::Region1;
-use basic::Region2;
-use basic::State;
 use desk::Answer as Answered;
 use desk::Desk;
 use desk::Outcome;
+use liquid::Region1;
+use properties::State;
 use sums::Answer;
 use sums::Derivative;
+use vapour::Region2;
 
 // Every property of a state, so that none is left unworked.
 fn sum_of(a: State) -> f64 {
@@ -59,8 +59,8 @@ fn worked(operation: u8, x: f64) -> f64 {
         b'1' => sum_of(Region1::state(x, 300.0 + 10.0 * x)),
         b'2' => sum_of(Region2::state(x, 700.0 + 10.0 * x)),
         b'h' => Region1::h(x, 300.0 + 10.0 * x),
-        b'a' => basic::ps(300.0 + 20.0 * x),
-        b't' => basic::ts(x),
+        b'a' => saturation::ps(300.0 + 20.0 * x),
+        b't' => saturation::ts(x),
         b'b' => backward::t1_ph(x, 100.0 + 10.0 * x),
         b'c' => backward::t2_ps(0.1 * x, 7.5),
         b'd' => backward::p1_hs(100.0 + 10.0 * x, 0.3),

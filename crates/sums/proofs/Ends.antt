@@ -3,7 +3,7 @@ use mathlib.Core.Path.{_≡_, refl}
 use lib.Ieee.{binary64, round, ofBits, ofInt, add, sub, mul, div, neg, size, odd}
 use Rattle.arith.specs.Printed.{printed}
 use Rattle.arith.specs.Root.{floorRoot, nearRoot, rootUnits, rootOf}
-use Rattle.basic.specs.Saturation.{psOf}
+use Rattle.saturation.specs.Saturation.{psOf}
 use Rattle.sums.specs.Places.{pEnd}
 
 pub p-end : pEnd ≡ ofBits binary64 0x403087774ef72605

@@ -4,8 +4,8 @@ use mathlib.Core.Bool.{Bool, true, false, cond}
 use Prim.Native.Nat.{ℕ, _≤_}
 use native.Mathlib.Omega.{arith}
 use lib.Ieee.{Float, lt, le}
-use Rattle.basic.specs.Saturation.{tsOf}
-use Rattle.basic.specs.Boundaries.{tB23}
+use Rattle.saturation.specs.Saturation.{tsOf}
+use Rattle.saturation.specs.Boundaries.{tB23}
 use Rattle.sums.specs.declared.Given.{Given}
 use Rattle.sums.specs.declared.Single.{Single}
 use Rattle.sums.specs.declared.places.Place.{Place}

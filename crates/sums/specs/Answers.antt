@@ -5,10 +5,10 @@ use mathlib.Core.List.{List, [], _∷_}
 use lib.Ieee.{Float, neg, lt, le}
 use Rattle.arith.specs.F64.{f64, _⊕_, _⊖_, _⊗_, _⊘_}
 use Rattle.arith.specs.Printed.{less, printed}
-use Rattle.basic.specs.declared.State.{State}
-use Rattle.basic.specs.Saturation.{tsOf}
-use Rattle.basic.specs.Region1.{state1}
-use Rattle.basic.specs.Region2.{state2}
+use Rattle.properties.specs.declared.State.{State}
+use Rattle.saturation.specs.Saturation.{tsOf}
+use Rattle.liquid.specs.Region1.{state1}
+use Rattle.vapour.specs.Region2.{state2}
 use Rattle.sums.specs.States.{stateAt, givenOf}
 use Rattle.sums.specs.declared.Given.{Given}
 use Rattle.sums.specs.declared.Single.{Single}

@@ -6,8 +6,8 @@ use lib.Ieee.{Float, lt, le}
 use Rattle.arith.specs.F64.{f64}
 use Rattle.arith.specs.Printed.{less, printed}
 use Rattle.arith.specs.Bits.{finite}
-use Rattle.basic.specs.Saturation.{psOf, tsOf}
-use Rattle.basic.specs.Boundaries.{pB23, tB23}
+use Rattle.saturation.specs.Saturation.{psOf, tsOf}
+use Rattle.saturation.specs.Boundaries.{pB23, tB23}
 use Rattle.sums.specs.declared.places.Place.{Place}
 use Rattle.sums.specs.declared.places.Place.the-variants.{Region, Refused}
 use Rattle.sums.specs.declared.Given.{Given}

@@ -4,7 +4,7 @@ use mathlib.Core.Bool.{Bool, true, false, cond, _&&_}
 use lib.Dec.{eqb}
 use lib.Ieee.{Float, le}
 use Rattle.arith.specs.Printed.{less, printed}
-use Rattle.basic.specs.declared.State.{State}
+use Rattle.properties.specs.declared.State.{State}
 use Rattle.backward.specs.T1ph.{t1ph}
 use Rattle.backward.specs.T1ps.{t1ps}
 use Rattle.backward.specs.P1hs.{p1hs}

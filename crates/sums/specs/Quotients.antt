@@ -8,7 +8,7 @@ use lib.ListN.{getD}
 use lib.Ieee.{Float, nan, neg, eq}
 use Rattle.arith.specs.F64.{f64, _⊖_, _⊗_, _⊘_}
 use Rattle.arith.specs.Bits.{finite}
-use Rattle.basic.specs.declared.Response.{Response}
+use Rattle.properties.specs.declared.Response.{Response}
 use Rattle.sums.specs.States.{responseAt}
 use Rattle.sums.specs.Queries.{answerOf}
 use Rattle.sums.specs.declared.Single.{Single}

@@ -3,11 +3,11 @@ use Prim.Native.Nat.{ℕ}
 use mathlib.Core.Bool.{cond}
 use lib.Dec.{eqb}
 use lib.Ieee.{Float}
-use Rattle.basic.specs.declared.State.{State}
-use Rattle.basic.specs.declared.Response.{Response}
-use Rattle.basic.specs.Region1.{gamma1, state1, responseOf1}
-use Rattle.basic.specs.Region2.{gamma2, state2, responseOf2}
-use Rattle.basic.specs.Region5.{gamma5, state5, responseOf5}
+use Rattle.properties.specs.declared.State.{State}
+use Rattle.properties.specs.declared.Response.{Response}
+use Rattle.liquid.specs.Region1.{gamma1, state1, responseOf1}
+use Rattle.vapour.specs.Region2.{gamma2, state2, responseOf2}
+use Rattle.vapour.specs.Region5.{gamma5, state5, responseOf5}
 use Rattle.sums.specs.declared.Given.{Given}
 use Rattle.sums.specs.declared.Given.the-variants.{Enthalpy, Entropy}
 

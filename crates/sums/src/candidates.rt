@@ -7,7 +7,7 @@ use crate::outcomes::temperature;
 use crate::places::Place;
 use crate::places::place_pt;
 use crate::states::worked_at;
-use basic::State;
+use properties::State;
 ghost use mathlib.Core.Path.{_≡_};
 ghost use Rattle.sums.specs.Queries.{pressureOf, isIn, bothNear, agreedOf, candidateOf};
 ghost use Rattle.sums.specs.Outcomes.{outcomeOf};

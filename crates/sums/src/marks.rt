@@ -4,7 +4,7 @@ use crate::Single;
 use crate::states::Worked;
 use crate::states::given_of;
 use crate::states::worked_at;
-use basic::Response;
+use properties::Response;
 ghost use mathlib.Core.Path.{_≡_};
 ghost use Rattle.sums.specs.Outcomes.{fullWith, fullOf};
 ghost use Rattle.sums.specs.Answers.{near, verifiedOf, markedOf};

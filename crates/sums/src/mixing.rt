@@ -3,7 +3,7 @@ use crate::Given;
 use crate::Wet;
 use crate::marks::verified;
 use crate::states::given_of;
-use basic::State;
+use properties::State;
 ghost use mathlib.Core.Path.{_≡_};
 ghost use Rattle.sums.specs.Answers.{mixed, mixtureOf};
 

@@ -16,8 +16,8 @@ use crate::places::wild;
 use crate::states::given_of;
 use crate::states::property;
 use crate::states::worked_at;
-use basic::Region1;
-use basic::Region2;
+use liquid::Region1;
+use vapour::Region2;
 ghost use mathlib.Core.Path.{_≡_};
 ghost use mathlib.Core.Bool.{false};
 ghost use lib.Dec.{eqb};
@@ -88,7 +88,7 @@ fn single(given: Given, region: u64, p: f64, y: f64) -> Outcome
 fn saturated(given: Given, p: f64, y: f64) -> Outcome
     ensures { λ r. ⌜ r ≡ outcomeOf (placedPY given p y (saturatedOf given p y)) ⌝ }
 {
-    let t = basic::ts(p);
+    let t = saturation::ts(p);
     let liquid = Region1::state(p, t);
     if y < given_of(given, liquid.h, liquid.s) {
         return single(given, 1, p, y);
@@ -107,7 +107,7 @@ fn dense(given: Given, p: f64, y: f64) -> Outcome
     if y <= property(given, 1, p, 623.15) {
         return single(given, 1, p, y);
     }
-    if y >= property(given, 2, p, basic::t_b23(p)) {
+    if y >= property(given, 2, p, saturation::t_b23(p)) {
         return single(given, 2, p, y);
     }
     Outcome::Refused(5)

@@ -28,13 +28,13 @@ fn table(p: f64, t: f64) -> Place
     ensures { λ r. ⌜ r ≡ tableOf p t ⌝ }
 {
     if t <= 623.15 {
-        if basic::ps(t) <= p {
+        if saturation::ps(t) <= p {
             return Place::Region(1);
         }
         return Place::Region(2);
     }
     if t <= 863.15 {
-        if p <= basic::p_b23(t) {
+        if p <= saturation::p_b23(t) {
             return Place::Region(2);
         }
         return Place::Refused(5);
@@ -75,7 +75,11 @@ pub(crate) fn saturates(p: f64) -> bool
 pub fn liquid_end(p: f64) -> f64
     ensures { λ r. ⌜ r ≡ liquidEnd p ⌝ }
 {
-    if saturates(p) { basic::ts(p) } else { 623.15 }
+    if saturates(p) {
+        saturation::ts(p)
+    } else {
+        623.15
+    }
 }
 
 // The temperature in K at which region 2 begins at p: on the saturation line up to P.
@@ -83,8 +87,8 @@ pub fn vapour_start(p: f64) -> f64
     ensures { λ r. ⌜ r ≡ vapourStart p ⌝ }
 {
     if saturates(p) {
-        basic::ts(p)
+        saturation::ts(p)
     } else {
-        basic::t_b23(p)
+        saturation::t_b23(p)
     }
 }

@@ -5,7 +5,7 @@ use crate::Single;
 use crate::marks::Full;
 use crate::outcomes::Outcome;
 use crate::outcomes::of_kind;
-use basic::Response;
+use properties::Response;
 ghost use mathlib.Core.Path.{_≡_};
 ghost use mathlib.Core.Bool.{true};
 ghost use Prim.Native.Nat.{_≤_};

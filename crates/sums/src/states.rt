@@ -1,10 +1,10 @@
 // The properties of a region at p and T (specs/States.antt).
 use crate::Given;
-use basic::Region1;
-use basic::Region2;
-use basic::Region5;
-use basic::Response;
-use basic::State;
+use liquid::Region1;
+use properties::Response;
+use properties::State;
+use vapour::Region2;
+use vapour::Region5;
 ghost use mathlib.Core.Path.{_≡_};
 ghost use Rattle.sums.specs.States.{givenOf, propertyAt};
 ghost use Rattle.sums.specs.Outcomes.{workedAt};

@@ -1,6 +1,6 @@
 -- `sums::states::worked_1` meets its contract: state and response are worked from the same γ. Assumes nothing.
 use borrow.Author.Needs.{needs}
-use Rattle.basic.specs.Region1.{state1}
+use Rattle.liquid.specs.Region1.{state1}
 use Rattle.sums.specs.States.{stateAt, responseAt}
 use Rattle.sums.specs.Outcomes.{workedAt}
 use Rattle.sums.proofs.states.worked_1.Statement.{statement}

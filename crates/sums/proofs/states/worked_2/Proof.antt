@@ -1,6 +1,6 @@
 -- `sums::states::worked_2` meets its contract: state and response are worked from the same γ. Assumes nothing.
 use borrow.Author.Needs.{needs}
-use Rattle.basic.specs.Region2.{state2}
+use Rattle.vapour.specs.Region2.{state2}
 use Rattle.sums.specs.States.{stateAt, responseAt}
 use Rattle.sums.specs.Outcomes.{workedAt}
 use Rattle.sums.proofs.states.worked_2.Statement.{statement}

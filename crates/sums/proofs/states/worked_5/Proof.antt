@@ -1,6 +1,6 @@
 -- `sums::states::worked_5` meets its contract: state and response are worked from the same γ. Assumes nothing.
 use borrow.Author.Needs.{needs}
-use Rattle.basic.specs.Region5.{state5}
+use Rattle.vapour.specs.Region5.{state5}
 use Rattle.sums.specs.States.{stateAt, responseAt}
 use Rattle.sums.specs.Outcomes.{workedAt}
 use Rattle.sums.proofs.states.worked_5.Statement.{statement}

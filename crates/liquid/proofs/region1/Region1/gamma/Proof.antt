@@ -1,0 +1,20 @@
+-- `liquid::region1::Region1::gamma` meets its contract: the sums are what `point` and `six` promise. Assumes nothing.
+use lib.Ieee.{ofBits, neg}
+use borrow.Author.Needs.{needs}
+use Rattle.terms.specs.Six.{sixOf}
+use Rattle.liquid.specs.Region1.{gamma1, sum1}
+use Rattle.liquid.proofs.region1.Region1.gamma.Statement.{statement}
+use Rattle.liquid.proofs.region1.Region1.gamma.Tie as tie
+
+point-requires : tie.Need-point-requires
+point-requires c κs = search needs
+
+six-requires : tie.Need-six-requires
+six-requires c κs = search needs
+
+returns : tie.Need-returns
+unfolding gamma1 sum1 sixOf ofBits neg
+returns c = rw (c .before .before .six .ensures, c .before .before .before .point .ensures)
+
+pub gamma-spec : {M : Type 1} → statement M
+gamma-spec = tie.close (tie.spec point-requires six-requires returns)

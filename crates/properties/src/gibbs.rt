@@ -1,0 +1,48 @@
+// Reduced variables, and the properties from the Gibbs free energy γ and its derivatives by them,
+// as every region works them: 002, Tables 2 and 4 (specs/Properties.antt).
+use crate::Point;
+use crate::State;
+ghost use mathlib.Core.Path.{_≡_};
+ghost use Rattle.properties.specs.Properties.{reducedBy, enthalpyOf, entropyOf, propertiesOf};
+
+// p and T as a region reads them that has the gas constant r and reduces by pr and tr.
+pub fn reduced(r: f64, pr: f64, tr: f64, p: f64, t: f64) -> Point
+    ensures { λ x. ⌜ x ≡ reducedBy r pr tr p t ⌝ }
+{
+    Point {
+        r,
+        p,
+        t,
+        pi: p / pr,
+        tau: tr / t,
+    }
+}
+
+// The enthalpy in kJ/kg from γτ.
+pub fn enthalpy(x: Point, gt: f64) -> f64
+    ensures { λ r. ⌜ r ≡ enthalpyOf x gt ⌝ }
+{
+    x.r * x.t * x.tau * gt
+}
+
+// The entropy in kJ/(kg K) from γ and γτ.
+pub fn entropy(x: Point, g: f64, gt: f64) -> f64
+    ensures { λ r. ⌜ r ≡ entropyOf x g gt ⌝ }
+{
+    x.r * (x.tau * gt - g)
+}
+
+// All six properties, from γ, γπ, γτ, γττ and the quotient that is w²/(R·T).
+pub fn from_gamma(x: Point, g: f64, gp: f64, gt: f64, gtt: f64, quotient: f64) -> State
+    ensures { λ r. ⌜ r ≡ propertiesOf x g gp gt gtt quotient ⌝ }
+{
+    let rt = x.r * x.t;
+    State {
+        v: rt * x.pi * gp / (1000.0 * x.p),
+        u: rt * (x.tau * gt - x.pi * gp),
+        h: enthalpy(x, gt),
+        s: entropy(x, g, gt),
+        cp: -x.r * (x.tau * x.tau) * gtt,
+        w: arith::root(1000.0 * rt * quotient),
+    }
+}

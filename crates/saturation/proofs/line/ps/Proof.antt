@@ -1,0 +1,17 @@
+-- `saturation::line::ps` meets its contract: the code is Eq. (28), with what `root` promises, and its literals are Table A11. Assumes nothing.
+use lib.Ieee.{round, ofInt, ofBits}
+use borrow.Author.Needs.{needs}
+use Rattle.arith.specs.Printed.{printed}
+use Rattle.saturation.specs.Saturation.{psOf}
+use Rattle.saturation.proofs.line.ps.Statement.{statement}
+use Rattle.saturation.proofs.line.ps.Tie as tie
+
+root-requires : tie.Need-root-requires
+root-requires c κs = search needs
+
+returns : tie.Need-returns
+unfolding psOf printed round ofInt ofBits
+returns c = rw (c .root .ensures)
+
+pub ps-spec : {M : Type 1} → statement M
+ps-spec = tie.close (tie.spec root-requires returns)

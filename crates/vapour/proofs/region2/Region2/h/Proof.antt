@@ -1,0 +1,34 @@
+-- `vapour::region2::Region2::h` meets its contract: the state's h takes of γ no more than γτ. Assumes nothing.
+use borrow.Author.Needs.{needs}
+use Rattle.terms.specs.Six.{sixOf}
+use Rattle.properties.specs.Properties.{propertiesOf}
+use Rattle.vapour.specs.Region2.{state2, stateOf2, gamma2}
+use Rattle.vapour.specs.Vapour.{vapourState, vapourOf}
+use Rattle.vapour.proofs.region2.Region2.h.Statement.{statement}
+use Rattle.vapour.proofs.region2.Region2.h.Tie as tie
+
+point-requires : tie.Need-point-requires
+point-requires c κs = search needs
+
+ideal-slope-requires : tie.Need-ideal-slope-requires
+ideal-slope-requires c κs = search needs
+
+residual-slope-requires : tie.Need-residual-slope-requires
+residual-slope-requires c κs = search needs
+
+enthalpy-requires : tie.Need-enthalpy-requires
+enthalpy-requires c κs = search needs
+
+returns : tie.Need-returns
+unfolding state2 stateOf2 vapourState propertiesOf gamma2 vapourOf sixOf
+returns c =
+    rw (
+      c .enthalpy .ensures,
+      c .before .residual-slope .ensures,
+      c .before .before .ideal-slope .ensures,
+      c .before .before .before .point .ensures,
+    )
+
+pub h-spec : {M : Type 1} → statement M
+h-spec =
+    tie.close (tie.spec point-requires ideal-slope-requires residual-slope-requires enthalpy-requires returns)

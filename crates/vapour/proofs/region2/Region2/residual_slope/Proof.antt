@@ -1,0 +1,15 @@
+-- `vapour::region2::Region2::residual_slope` meets its contract: the three arrays are Table A5 row by row, which computing shows. Assumes nothing.
+use lib.Ieee.{round, ofBits, neg}
+use borrow.Author.Needs.{needs}
+use Rattle.arith.specs.Printed.{printed}
+use Rattle.terms.specs.Sum.{rows}
+use Rattle.vapour.specs.Region2.{residual2}
+use Rattle.vapour.proofs.region2.Region2.residual_slope.Statement.{statement}
+use Rattle.vapour.proofs.region2.Region2.residual_slope.Tie as tie
+
+returns : tie.Need-returns
+unfolding rows residual2 printed round ofBits neg
+returns c = rw (c .slope .ensures)
+
+pub residual-slope-spec : {M : Type 1} → statement M
+residual-slope-spec = tie.close (tie.spec (λ c. search needs) (λ c. search needs) (λ c. search needs) (λ c κs. search needs) returns)

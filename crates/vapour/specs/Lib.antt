@@ -1,0 +1,3 @@
+pub mod Vapour
+pub mod Region2
+pub mod Region5

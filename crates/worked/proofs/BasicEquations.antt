@@ -1,0 +1,64 @@
+-- The definitions give the numbers that 002 prints to check a program by: one point of each of its Tables A3, A6 and A15, and the pressure P = ps(623.15) at
+-- which regions 1, 2 and 3 meet. The f64 beside each property agrees with the printed value in all its nine digits. Shown by computing. Assumes nothing.
+use mathlib.Core.Path.{_≡_, refl}
+use mathlib.Core.Bool.{false}
+use lib.Ieee.{binary64, round, add, sub, mul, div, neg, ofInt, ofBits}
+use Rattle.arith.specs.F64.{f64}
+use Rattle.arith.specs.Printed.{printed, less}
+use Rattle.arith.specs.Power.{raised, powerOf}
+use Rattle.arith.specs.Root.{rootOf, rootUnits, nearRoot, floorRoot, fourthRootOf}
+use Rattle.arith.specs.Log.{logOf, logUnits, partsOf, partsAt, logSum, series, ln2}
+use Rattle.terms.specs.Sum.{sumOf, sumFrom, plus, term, gone, scaled}
+use Rattle.terms.specs.Six.{sixOf}
+use Rattle.properties.specs.Properties.{propertiesOf}
+use Rattle.liquid.specs.Region1.{table1, point1, sum1, gamma1, stateOf1, state1}
+use Rattle.vapour.specs.Vapour.{vapourOf, vapourState}
+use Rattle.vapour.specs.Region2.{ideal2, residual2, point2, gamma2, stateOf2, state2}
+use Rattle.vapour.specs.Region5.{ideal5, residual5, point5, gamma5, stateOf5, state5}
+use Rattle.saturation.specs.Saturation.{psOf, tsOf}
+
+-- Table A3: p = 3 MPa, T = 300 K
+pub region-1 : state1 (f64 3) (f64 300) ≡ record {
+  v = ofBits binary64 0x3f50_6b54_2c27_16da;
+  u = ofBits binary64 0x405c_14c9_d15c_dded;
+  h = ofBits binary64 0x405c_d533_93c2_4800;
+  s = ofBits binary64 0x3fd9_1b5b_9df0_aa12;
+  cp = ofBits binary64 0x4010_b12a_1b21_85cd;
+  w = ofBits binary64 0x4097_8ef4_f361_2581;
+}
+unfolding state1 stateOf1 gamma1 sum1 point1 table1 propertiesOf sumOf sumFrom plus term gone scaled powerOf raised add sub mul div neg round ofInt ofBits printed rootOf rootUnits nearRoot floorRoot
+region-1 = refl
+
+-- Table A6: p = 30 MPa, T = 700 K
+pub region-2 : state2 (f64 30) (f64 700) ≡ record {
+  v = ofBits binary64 0x3f76_3d35_3bd9_951b;
+  u = ofBits binary64 0x40a3_4938_b567_8b62;
+  h = ofBits binary64 0x40a4_8efd_4f32_40a1;
+  s = ofBits binary64 0x4014_b39c_d6e2_61a9;
+  cp = ofBits binary64 0x4024_b375_f164_9a48;
+  w = ofBits binary64 0x407e_062f_32eb_527b;
+}
+unfolding state2 stateOf2 gamma2 point2 ideal2 residual2 vapourState vapourOf propertiesOf sixOf sumOf sumFrom plus term gone scaled powerOf raised logOf logUnits partsOf partsAt logSum series ln2 add sub mul div neg round ofInt ofBits printed rootOf rootUnits nearRoot floorRoot
+region-2 = refl
+
+-- Table A15: p = 8 MPa, T = 2000 K
+pub region-5 : state5 (f64 8) (f64 2000) ≡ record {
+  v = ofBits binary64 0x3fbd_a157_c118_2017;
+  u = ofBits binary64 0x40b6_19db_94e2_0494;
+  h = ofBits binary64 0x40b9_b7cd_8b34_367e;
+  s = ofBits binary64 0x4022_503c_59e4_f49a;
+  cp = ofBits binary64 0x4006_d315_0d79_c4e7;
+  w = ofBits binary64 0x4090_796e_a689_b2f3;
+}
+unfolding state5 stateOf5 gamma5 point5 ideal5 residual5 vapourState vapourOf propertiesOf sixOf sumOf sumFrom plus term gone scaled powerOf raised logOf logUnits partsOf partsAt logSum series ln2 add sub mul div neg round ofInt ofBits printed rootOf rootUnits nearRoot floorRoot
+region-5 = refl
+
+-- P, in MPa
+pub saturation-pressure : psOf (printed false 62315 (less 2)) ≡ ofBits binary64 0x4030_8777_4ef7_2605
+unfolding psOf add sub mul div neg round ofInt ofBits printed rootOf rootUnits nearRoot floorRoot
+saturation-pressure = refl
+
+-- the temperature that P gives back, 623.1500000000016 K: not 623.15
+pub saturation-temperature : tsOf (ofBits binary64 0x4030_8777_4ef7_2605) ≡ ofBits binary64 0x4083_7933_3333_3341
+unfolding tsOf fourthRootOf add sub mul div neg round ofInt ofBits printed rootOf rootUnits nearRoot floorRoot
+saturation-temperature = refl

@@ -1,0 +1,3 @@
+pub mod Arithmetic
+pub mod BasicEquations
+pub mod BackwardEquations
