@@ -7,8 +7,8 @@ use basic::State;
 use desk::Answer as Answered;
 use desk::Desk;
 use desk::Outcome;
+use slopes::Derivative;
 use sums::Answer;
-use sums::Derivative;
 
 // Every property of a state, so that none is left unworked.
 fn sum_of(a: State) -> f64 {
