@@ -8,6 +8,8 @@ use Rattle.states.proofs.marks.full_at.Kinds as full-at-kinds
 use Rattle.states.proofs.marks.full_at.Reads as full-at
 use Rattle.states.proofs.marks.full_marked.Kinds as full-marked-kinds
 use Rattle.states.proofs.marks.full_marked.Reads as full-marked
+use Rattle.states.proofs.marks.full_marked_both.Kinds as full-marked-both-kinds
+use Rattle.states.proofs.marks.full_marked_both.Reads as full-marked-both
 use Rattle.states.proofs.marks.marked.Kinds as marked-kinds
 use Rattle.states.proofs.marks.marked.Reads as marked
 use Rattle.states.proofs.mixing.wet_at.Kinds as wet-at-kinds
@@ -23,6 +25,9 @@ full-at-only κs a x y s t p q = p ∙ sym q
 
 pub full-marked-only : Only 0 full-marked-kinds.ps full-marked-kinds.r full-marked.Post
 full-marked-only κs a x y s t p q = p ∙ sym q
+
+pub full-marked-both-only : Only 0 full-marked-both-kinds.ps full-marked-both-kinds.r full-marked-both.Post
+full-marked-both-only κs a x y s t p q = p ∙ sym q
 
 pub marked-only : Only 0 marked-kinds.ps marked-kinds.r marked.Post
 marked-only κs a x y s t p q = p ∙ sym q

@@ -42,6 +42,10 @@ singleOf region p t verified = record { region = region; p = p; t = t; state = s
 unfoldable pub markedOf : Given → ℕ → Float → Float → Float → Single
 markedOf given region p y t = singleOf region p t (verifiedOf given (stateAt region p t .h) (stateAt region p t .s) y)
 
+-- the same, marked by both h and s
+abbrev pub markedBothOf : ℕ → Float → Float → Float → Float → Single
+markedBothOf region p t h s = singleOf region p t (bothNear hMargin sMargin (stateAt region p t) h s)
+
 -- ---- with the α and κ that a derivative of the state needs, so that nothing is summed twice
 
 abbrev pub fullOf : Single → Full

@@ -11,6 +11,7 @@ use basic::State;
 pub use marks::both_near;
 pub use marks::full_at;
 pub use marks::full_marked;
+pub use marks::full_marked_both;
 pub use marks::marked;
 pub use mixing::wet_at;
 pub use worked::property;

@@ -8,7 +8,7 @@ use crate::worked::worked_at;
 use basic::State;
 ghost use mathlib.Core.Path.{_≡_};
 ghost use mathlib.Core.Bool.{true};
-ghost use Rattle.states.specs.Marks.{near, verifiedOf, bothNear, singleOf, markedOf, fullWith, fullOf};
+ghost use Rattle.states.specs.Marks.{near, verifiedOf, bothNear, singleOf, markedOf, markedBothOf, fullWith, fullOf};
 
 // Whether x and y differ by at most the margin.
 fn near(margin: f64, x: f64, y: f64) -> bool
@@ -70,7 +70,17 @@ pub fn full_marked(given: Given, region: u64, p: f64, y: f64, t: f64) -> Full
     with_mark(region, p, t, a, back)
 }
 
-// The same without what derivatives need.
+// The state in a region at p and T, marked by both the h and the s that were asked.
+pub fn full_marked_both(region: u64, p: f64, t: f64, h: f64, s: f64) -> Full
+    ensures { λ r. ⌜ r ≡ fullOf (markedBothOf region p t h s) ⌝ }
+{
+    let a = worked_at(region, p, t);
+    let state = a.state;
+    let back = both_near(0.08, 0.0001, state, h, s);
+    with_mark(region, p, t, a, back)
+}
+
+// The state of `full_marked` without what derivatives need.
 pub fn marked(given: Given, region: u64, p: f64, y: f64, t: f64) -> Single
     ensures { λ r. ⌜ r ≡ markedOf given region p y t ⌝ }
 {

@@ -3,11 +3,9 @@ use crate::outcomes::Outcome;
 use crate::outcomes::temperature;
 use places::Place;
 use places::place_pt;
-use states::Full;
 use states::Given;
-use states::Single;
 use states::both_near;
-use states::full_at;
+use states::full_marked_both;
 ghost use mathlib.Core.Path.{_≡_};
 ghost use Rattle.sums.specs.Queries.{pressureOf, isIn, agreedOf, candidateOf};
 ghost use Rattle.sums.specs.Outcomes.{outcomeOf};
@@ -38,22 +36,11 @@ fn agreed(region: u64, p: f64, t: f64, h: f64, s: f64) -> Outcome
     ensures { λ r. ⌜ r ≡ outcomeOf (agreedOf region p t h s) ⌝ }
 {
     if is_in(region, place_pt(p, t)) {
-        let a = full_at(region, p, t);
+        let a = full_marked_both(region, p, t, h, s);
         let single = a.single;
         let state = single.state;
         if both_near(0.2, 0.0005, state, h, s) {
-            let verified = both_near(0.08, 0.0001, state, h, s);
-            let response = a.response;
-            return Outcome::Single(Full {
-                single: Single {
-                    region,
-                    p,
-                    t,
-                    state,
-                    verified,
-                },
-                response,
-            });
+            return Outcome::Single(a);
         }
         return Outcome::Refused(7);
     }

@@ -14,34 +14,30 @@ place-pt-requires c κs = search needs
 is-in-requires : tie.Need-is-in-requires
 is-in-requires c κs = search needs
 
-full-at-requires : tie.Need-full-at-requires
-full-at-requires c κs = search needs
+full-marked-both-requires : tie.Need-full-marked-both-requires
+full-marked-both-requires c κs = search needs
 
 both-near-requires : tie.Need-both-near-requires
 both-near-requires c κs = search needs
 
-both-near-requires-2 : tie.Need-both-near-requires-2
-both-near-requires-2 c κs = search needs
-
 returns : tie.Need-returns
 unfolding agrees agreedOf printed round ofBits
 returns c =
-    let state = ap (λ (a : Full). a .single .state) (c .before .before .before .before .before .before .full-at .ensures) in
+    let state = ap (λ (a : Full). a .single .state) (c .before .before .before .before .full-marked-both .ensures) in
     rw (
-      ← c .before .before .before .before .before .before .before .before .before .place-pt .ensures,
-      ← c .before .before .before .before .before .before .before .before .is-in .ensures,
-      c .before .before .before .before .before .before .before .if1 .taken,
+      ← c .before .before .before .before .before .before .before .place-pt .ensures,
+      ← c .before .before .before .before .before .before .is-in .ensures,
+      c .before .before .before .before .before .if1 .taken,
       ← state,
-      ← c .before .before .before .both-near .ensures,
-      c .before .before .if2 .taken,
-      c .before .both-near2 .ensures,
-      c .before .before .before .before .before .before .full-at .ensures,
+      ← c .before .both-near .ensures,
+      c .if2 .taken,
+      c .before .before .before .before .full-marked-both .ensures,
     )
 
 returns-2 : tie.Need-returns-2
 unfolding agrees agreedOf printed round ofBits
 returns-2 c =
-    let state = ap (λ (a : Full). a .single .state) (c .before .before .before .before .full-at .ensures) in
+    let state = ap (λ (a : Full). a .single .state) (c .before .before .before .before .full-marked-both .ensures) in
     rw (
       ← c .before .before .before .before .before .before .before .place-pt .ensures,
       ← c .before .before .before .before .before .before .is-in .ensures,
@@ -61,9 +57,8 @@ agreed-spec =
     (tie.spec
     place-pt-requires
     is-in-requires
-    full-at-requires
+    full-marked-both-requires
     both-near-requires
-    both-near-requires-2
     returns
     returns-2
     returns-3)
