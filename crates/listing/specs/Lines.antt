@@ -15,8 +15,8 @@ use Rattle.sums.specs.declared.Answer.{Answer}
 use Rattle.sums.specs.declared.Answer.the-variants as Answer
 use Rattle.sums.specs.declared.Value.{Value}
 use Rattle.sums.specs.declared.Value.the-variants.{Is, Missing}
-use Rattle.sums.specs.declared.Derivative.{Derivative}
-use Rattle.sums.specs.declared.Derivative.the-variants as Derivative
+use Rattle.slopes.specs.declared.Derivative.{Derivative}
+use Rattle.slopes.specs.declared.Derivative.the-variants as Derivative
 
 -- `refused N`, all that is said of a refused sheet
 unfoldable pub refusedLine : ℕ → List ℕ

@@ -1,7 +1,7 @@
 // The columns that lines are made of (specs/Lines.antt).
 use sheet::Point;
+use slopes::Derivative;
 use sums::Answer;
-use sums::Derivative;
 use sums::Value;
 use text::Cell;
 ghost use mathlib.Core.Path.{_≡_};

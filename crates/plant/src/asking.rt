@@ -2,7 +2,7 @@
 // turns and a collect.
 use desk::Answer;
 use desk::Desk;
-use sums::Single;
+use states::Single;
 
 // The kind of a query by p in MPa and h in kJ/kg.
 pub const P_H: u64 = 2;

@@ -2,7 +2,7 @@
 // what the model makes of it. Units for people: MPa, degC, kJ/kg, MW.
 use crate::asking::Known;
 use libc::STDOUT_FILENO;
-use sums::Single;
+use states::Single;
 use text::Cell;
 
 // How many kW make one MW.

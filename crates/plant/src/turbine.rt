@@ -8,7 +8,7 @@ use crate::lines;
 use crate::lines::Output;
 use crate::lines::Place;
 use desk::Desk;
-use sums::Single;
+use states::Single;
 
 // The number by which the desk knows the turbine.
 const CALLER: u64 = 2;

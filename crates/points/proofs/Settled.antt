@@ -8,7 +8,7 @@ use Rattle.backward.specs.H2ab.{h2ab}
 use Rattle.backward.specs.Subregions.{byHs}
 use Rattle.sheet.specs.Versions.{versionFor}
 use Rattle.sheet.specs.Write.{sheetOf}
-use Rattle.sums.specs.Places.{placePT, tableOf}
+use Rattle.places.specs.Places.{placePT, tableOf}
 use Rattle.sums.specs.Queries.{answerPT}
 use Rattle.points.specs.Marked.{MarkedPoint, marked, readingOf}
 

@@ -8,8 +8,8 @@ use lib.Dec.{eqb}
 use lib.Ieee.{Float}
 use borrow.Author.Tests.{eqb-true}
 use Rattle.sums.proofs.Phases.{single-region}
-use Rattle.sums.specs.declared.Given.the-variants.{Enthalpy, Entropy}
-use Rattle.sums.specs.declared.Single.{Single}
+use Rattle.states.specs.declared.Given.the-variants.{Enthalpy, Entropy}
+use Rattle.states.specs.declared.Single.{Single}
 use Rattle.sums.specs.declared.Answer.{Answer}
 use Rattle.sums.specs.declared.Answer.the-variants as Answer
 use Rattle.sums.specs.Queries.{answerOf}

@@ -4,12 +4,12 @@ use mathlib.Core.Bool.{Bool, false, cond, _||_}
 use lib.Dec.{eqb}
 use lib.Ieee.{Float, lt}
 use Rattle.arith.specs.F64.{f64, _⊕_, _⊘_}
-use Rattle.sums.specs.States.{propertyAt}
-use Rattle.sums.specs.Places.{t273, t1073, liquidEnd, vapourStart}
-use Rattle.sums.specs.Answers.{markedOf}
+use Rattle.states.specs.States.{propertyAt}
+use Rattle.places.specs.Places.{t273, t1073, liquidEnd, vapourStart}
+use Rattle.states.specs.Marks.{markedOf}
 use Rattle.sums.specs.Queries.{answerOf}
-use Rattle.sums.specs.declared.Given.{Given}
-use Rattle.sums.specs.declared.Given.the-variants.{Enthalpy, Entropy}
+use Rattle.states.specs.declared.Given.{Given}
+use Rattle.states.specs.declared.Given.the-variants.{Enthalpy, Entropy}
 use Rattle.sums.specs.declared.Answer.{Answer}
 use Rattle.sums.specs.declared.Answer.the-variants as Answer
 use Rattle.settle.specs.declared.Bracket.{Bracket}

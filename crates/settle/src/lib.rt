@@ -1,9 +1,9 @@
 // The settling layer: what the desk may know of steam. A query of (p,h) or (p,s) is judged at its
 // post, its temperature bracket is halved one step a turn, and at the end its state is worked at the
 // middle of the bracket. What each call answers is said in specs/Settle.antt.
+use states::Given;
+use states::Single;
 use sums::Answer;
-use sums::Given;
-use sums::Single;
 ghost use mathlib.Core.Path.{_≡_};
 ghost use Rattle.settle.specs.Settle.{postedOf, givenOf, middleOf, bracketOf, judgedOf, halvedOf, settledOf};
 
@@ -56,11 +56,11 @@ fn first_bracket(region: u64, p: f64) -> Bracket
     if region == 1 {
         Bracket {
             lo: 273.15,
-            hi: sums::liquid_end(p),
+            hi: places::liquid_end(p),
         }
     } else {
         Bracket {
-            lo: sums::vapour_start(p),
+            lo: places::vapour_start(p),
             hi: 1073.15,
         }
     }
@@ -95,7 +95,7 @@ pub fn halve(kind: u64, region: u64, p: f64, y: f64, lo: f64, hi: f64) -> Bracke
     ensures { λ r. ⌜ r ≡ halvedOf kind region p y lo hi ⌝ }
 {
     let mid = middle(lo, hi);
-    if sums::property(given(kind), region, p, mid) < y {
+    if states::property(given(kind), region, p, mid) < y {
         Bracket { lo: mid, hi }
     } else {
         Bracket { lo, hi: mid }
@@ -106,6 +106,6 @@ pub fn halve(kind: u64, region: u64, p: f64, y: f64, lo: f64, hi: f64) -> Bracke
 pub fn settled_at(kind: u64, region: u64, p: f64, y: f64, lo: f64, hi: f64) -> Settled
     ensures { λ r. ⌜ r ≡ settledOf kind region p y lo hi ⌝ }
 {
-    let single = sums::marked(given(kind), region, p, y, middle(lo, hi));
+    let single = states::marked(given(kind), region, p, y, middle(lo, hi));
     Settled { single }
 }

@@ -10,12 +10,8 @@ use Rattle.sums.proofs.answers.region.Kinds as region-kinds
 use Rattle.sums.proofs.answers.region.Reads as region
 use Rattle.sums.proofs.answers.values.Kinds as values-kinds
 use Rattle.sums.proofs.answers.values.Reads as values
-use Rattle.sums.proofs.marks.marked.Kinds as marked-kinds
-use Rattle.sums.proofs.marks.marked.Reads as marked
-use Rattle.sums.proofs.places.liquid_end.Kinds as liquid-end-kinds
-use Rattle.sums.proofs.places.liquid_end.Reads as liquid-end
-use Rattle.sums.proofs.places.vapour_start.Kinds as vapour-start-kinds
-use Rattle.sums.proofs.places.vapour_start.Reads as vapour-start
+use Rattle.sums.proofs.derived.quotient.Kinds as quotient-kinds
+use Rattle.sums.proofs.derived.quotient.Reads as quotient
 use Rattle.sums.proofs.queries.from_hs.Kinds as from-hs-kinds
 use Rattle.sums.proofs.queries.from_hs.Reads as from-hs
 use Rattle.sums.proofs.queries.from_ph.Kinds as from-ph-kinds
@@ -26,10 +22,6 @@ use Rattle.sums.proofs.queries.from_pt.Kinds as from-pt-kinds
 use Rattle.sums.proofs.queries.from_pt.Reads as from-pt
 use Rattle.sums.proofs.queries.query.Kinds as query-kinds
 use Rattle.sums.proofs.queries.query.Reads as query
-use Rattle.sums.proofs.quotients.quotient.Kinds as quotient-kinds
-use Rattle.sums.proofs.quotients.quotient.Reads as quotient
-use Rattle.sums.proofs.states.property.Kinds as property-kinds
-use Rattle.sums.proofs.states.property.Reads as property
 
 pub from-pt-only : Only 0 from-pt-kinds.ps from-pt-kinds.r from-pt.Post
 from-pt-only κs a x y s t p q = p ∙ sym q
@@ -60,15 +52,3 @@ mark-only κs a x y s t p q = p ∙ sym q
 
 pub values-only : Only 0 values-kinds.ps values-kinds.r values.Post
 values-only κs a x y s t p q = p ∙ sym q
-
-pub property-only : Only 0 property-kinds.ps property-kinds.r property.Post
-property-only κs a x y s t p q = p ∙ sym q
-
-pub marked-only : Only 0 marked-kinds.ps marked-kinds.r marked.Post
-marked-only κs a x y s t p q = p ∙ sym q
-
-pub liquid-end-only : Only 0 liquid-end-kinds.ps liquid-end-kinds.r liquid-end.Post
-liquid-end-only κs a x y s t p q = p ∙ sym q
-
-pub vapour-start-only : Only 0 vapour-start-kinds.ps vapour-start-kinds.r vapour-start.Post
-vapour-start-only κs a x y s t p q = p ∙ sym q

@@ -6,14 +6,14 @@ use native.Mathlib.Omega.{arith}
 use lib.Ieee.{Float, lt, le}
 use Rattle.saturation.specs.Saturation.{tsOf}
 use Rattle.saturation.specs.Boundaries.{tB23}
-use Rattle.sums.specs.declared.Given.{Given}
-use Rattle.sums.specs.declared.Single.{Single}
-use Rattle.sums.specs.declared.places.Place.{Place}
-use Rattle.sums.specs.declared.places.Place.the-variants as Place
+use Rattle.states.specs.declared.Given.{Given}
+use Rattle.states.specs.declared.Single.{Single}
+use Rattle.places.specs.declared.Place.{Place}
+use Rattle.places.specs.declared.Place.the-variants as Place
 use Rattle.sums.specs.declared.Answer.the-variants as Answer
-use Rattle.sums.specs.States.{propertyAt}
-use Rattle.sums.specs.Places.{wild, outside, t273, t623, t1073, pTriple, pMost, pEnd, saturatedOf, denseOf, rangedOf, placePY}
-use Rattle.sums.specs.Answers.{markedOf}
+use Rattle.states.specs.States.{propertyAt}
+use Rattle.places.specs.Places.{wild, outside, t273, t623, t1073, pTriple, pMost, pEnd, saturatedOf, denseOf, rangedOf, placePY}
+use Rattle.states.specs.Marks.{markedOf}
 use Rattle.sums.specs.Queries.{placedPY, answerPY}
 
 -- ---- a (p,h) or (p,s) query is refused, or lies in region 1, 2 or 4

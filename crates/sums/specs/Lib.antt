@@ -1,5 +1,3 @@
-pub mod States
-pub mod Places
 pub mod Answers
 pub mod Queries
 pub mod Quotients

@@ -4,18 +4,18 @@ use mathlib.Core.Bool.{Bool, true, false, cond, _&&_}
 use lib.Dec.{eqb}
 use lib.Ieee.{Float, le}
 use Rattle.arith.specs.Printed.{less, printed}
-use Rattle.properties.specs.declared.State.{State}
 use Rattle.backward.specs.T1ph.{t1ph}
 use Rattle.backward.specs.T1ps.{t1ps}
 use Rattle.backward.specs.P1hs.{p1hs}
 use Rattle.backward.specs.Region2.{t2ph, t2ps, p2hs}
-use Rattle.sums.specs.States.{stateAt, givenOf}
-use Rattle.sums.specs.Places.{wild, pTriple, placePT, placePY}
-use Rattle.sums.specs.Answers.{near, hMargin, sMargin, singleOf, markedOf, wetOf}
-use Rattle.sums.specs.declared.Given.{Given}
-use Rattle.sums.specs.declared.Given.the-variants.{Enthalpy, Entropy}
-use Rattle.sums.specs.declared.places.Place.{Place}
-use Rattle.sums.specs.declared.places.Place.the-variants as Place
+use Rattle.states.specs.States.{stateAt, givenOf}
+use Rattle.states.specs.Marks.{bothNear, hMargin, sMargin, singleOf, markedOf}
+use Rattle.states.specs.Mixing.{wetOf}
+use Rattle.states.specs.declared.Given.{Given}
+use Rattle.states.specs.declared.Given.the-variants.{Enthalpy, Entropy}
+use Rattle.places.specs.Places.{wild, pTriple, placePT, placePY}
+use Rattle.places.specs.declared.Place.{Place}
+use Rattle.places.specs.declared.Place.the-variants as Place
 use Rattle.sums.specs.declared.Answer.{Answer}
 use Rattle.sums.specs.declared.Answer.the-variants.{Single, Wet, Refused}
 
@@ -51,10 +51,6 @@ pressureOf region h s = cond (eqb region 1) (p1hs h s) (p2hs h s)
 abbrev pub isIn : ℕ → Place → Bool
 isIn region (Place.Region n) = eqb n region
 isIn region (Place.Refused n) = false
-
--- both h and s of a state within their margins
-abbrev pub bothNear : Float → Float → State → Float → Float → Bool
-bothNear hMargin sMargin a h s = near hMargin (a .h) h && near sMargin (a .s) s
 
 -- the table agrees, and forward h and s are within 0.2 and 0.0005 of those asked
 unfoldable pub agrees : ℕ → Float → Float → Float → Float → Bool

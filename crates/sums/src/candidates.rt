@@ -1,15 +1,13 @@
 // The candidates of an (h,s) query (specs/Queries.antt).
-use crate::Given;
-use crate::marks::near;
-use crate::marks::with_mark;
 use crate::outcomes::Outcome;
 use crate::outcomes::temperature;
-use crate::places::Place;
-use crate::places::place_pt;
-use crate::states::worked_at;
-use properties::State;
+use places::Place;
+use places::place_pt;
+use states::Given;
+use states::both_near;
+use states::full_marked_both;
 ghost use mathlib.Core.Path.{_≡_};
-ghost use Rattle.sums.specs.Queries.{pressureOf, isIn, bothNear, agreedOf, candidateOf};
+ghost use Rattle.sums.specs.Queries.{pressureOf, isIn, agreedOf, candidateOf};
 ghost use Rattle.sums.specs.Outcomes.{outcomeOf};
 
 // p in MPa by the backward equation of region 1 or 2 for h in kJ/kg and s in kJ/(kg K).
@@ -33,23 +31,16 @@ fn is_in(region: u64, place: Place) -> bool
     }
 }
 
-// Whether both h and s of a state are within the margins dh and ds.
-fn both_near(dh: f64, ds: f64, state: State, h: f64, s: f64) -> bool
-    ensures { λ r. ⌜ r ≡ bothNear dh ds state h s ⌝ }
-{
-    near(dh, state.h, h) && near(ds, state.s, s)
-}
-
 // The state at p and T, if the (p,T) table and forward h and s agree.
 fn agreed(region: u64, p: f64, t: f64, h: f64, s: f64) -> Outcome
     ensures { λ r. ⌜ r ≡ outcomeOf (agreedOf region p t h s) ⌝ }
 {
     if is_in(region, place_pt(p, t)) {
-        let a = worked_at(region, p, t);
-        let state = a.state;
+        let a = full_marked_both(region, p, t, h, s);
+        let single = a.single;
+        let state = single.state;
         if both_near(0.2, 0.0005, state, h, s) {
-            let verified = both_near(0.08, 0.0001, state, h, s);
-            return Outcome::Single(with_mark(region, p, t, a, verified));
+            return Outcome::Single(a);
         }
         return Outcome::Refused(7);
     }

@@ -4,56 +4,22 @@
 // m/s.
 mod answers;
 mod candidates;
-mod marks;
-mod mixing;
+mod derived;
 mod outcomes;
-mod places;
 mod queries;
-mod quotients;
-mod states;
 
 pub use answers::mark;
 pub use answers::number;
 pub use answers::region;
 pub use answers::values;
-pub use marks::marked;
-pub use places::liquid_end;
-pub use places::vapour_start;
-use properties::State;
+pub use derived::quotient;
 pub use queries::from_hs;
 pub use queries::from_ph;
 pub use queries::from_ps;
 pub use queries::from_pt;
 pub use queries::query;
-pub use quotients::quotient;
-pub use states::property;
-
-// Which property a query gives beside p.
-pub enum Given {
-    Enthalpy,
-    Entropy,
-}
-
-// A state of one phase, with the mark whether the forward equations come back to what was asked.
-pub struct Single {
-    pub region: u64,
-    pub p: f64,
-    pub t: f64,
-    pub state: State,
-    pub verified: bool,
-}
-
-// A wet state of quality x, which has no cp and no w.
-pub struct Wet {
-    pub p: f64,
-    pub t: f64,
-    pub v: f64,
-    pub u: f64,
-    pub h: f64,
-    pub s: f64,
-    pub x: f64,
-    pub verified: bool,
-}
+use states::Single;
+use states::Wet;
 
 // What a query is answered.
 pub enum Answer {
@@ -66,10 +32,4 @@ pub enum Answer {
 pub enum Value {
     Is(f64),
     Missing,
-}
-
-// What a derivative is answered.
-pub enum Derivative {
-    Value(f64),
-    Refused(u64),
 }

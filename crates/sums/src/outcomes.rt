@@ -1,28 +1,19 @@
 // Queries from the inside: an answer together with what a derivative of it needs
 // (specs/Queries.antt, specs/Outcomes.antt).
 use crate::Answer;
-use crate::Given;
-use crate::Wet;
 use crate::candidates::candidate;
-use crate::marks::Full;
-use crate::marks::full_marked;
-use crate::marks::with_mark;
-use crate::mixing::mixture;
-use crate::places::Place;
-use crate::places::outside;
-use crate::places::place_pt;
-use crate::places::saturates;
-use crate::places::wild;
-use crate::states::given_of;
-use crate::states::property;
-use crate::states::worked_at;
-use liquid::Region1;
-use vapour::Region2;
+use places::Place;
+use places::place_pt;
+use places::place_py;
+use places::wild;
+use states::Full;
+use states::Given;
+use states::Wet;
+use states::full_at;
+use states::full_marked;
+use states::wet_at;
 ghost use mathlib.Core.Path.{_≡_};
-ghost use mathlib.Core.Bool.{false};
-ghost use lib.Dec.{eqb};
-ghost use Rattle.sums.specs.Places.{saturatedOf, denseOf, rangedOf};
-ghost use Rattle.sums.specs.Queries.{temperatureOf, placedPY, answerPT, answerPY, answerHS, answerOf};
+ghost use Rattle.sums.specs.Queries.{temperatureOf, answerPT, answerPY, answerHS, answerOf};
 ghost use Rattle.sums.specs.Outcomes.{outcomeOf, shownOf};
 
 pub enum Outcome {
@@ -50,10 +41,7 @@ pub(crate) fn of_pt(p: f64, t: f64) -> Outcome
     ensures { λ r. ⌜ r ≡ outcomeOf (answerPT p t) ⌝ }
 {
     match place_pt(p, t) {
-        Place::Region(n) => {
-            let a = worked_at(n, p, t);
-            Outcome::Single(with_mark(n, p, t, a, true))
-        }
+        Place::Region(n) => Outcome::Single(full_at(n, p, t)),
         Place::Refused(n) => Outcome::Refused(n),
     }
 }
@@ -74,71 +62,20 @@ pub(crate) fn temperature(given: Given, region: u64, p: f64, y: f64) -> f64
     }
 }
 
-// A state of region 1 or 2 at the backward equation's T.
-fn single(given: Given, region: u64, p: f64, y: f64) -> Outcome
-    requires { ⌜ eqb region 4 ≡ false ⌝ }
-    ensures { λ r. ⌜ r ≡ outcomeOf (placedPY given p y (Place.Region region)) ⌝ }
-{
-    let t = temperature(given, region, p, y);
-    Outcome::Single(full_marked(given, region, p, y, t))
-}
-
-// Up to P: liquid, wet or vapour, by the saturated states, which are also what a wet state is mixed
-// from.
-fn saturated(given: Given, p: f64, y: f64) -> Outcome
-    ensures { λ r. ⌜ r ≡ outcomeOf (placedPY given p y (saturatedOf given p y)) ⌝ }
-{
-    let t = saturation::ts(p);
-    let liquid = Region1::state(p, t);
-    if y < given_of(given, liquid.h, liquid.s) {
-        return single(given, 1, p, y);
-    }
-    let vapour = Region2::state(p, t);
-    if y <= given_of(given, vapour.h, vapour.s) {
-        return Outcome::Wet(mixture(given, p, y, t, liquid, vapour));
-    }
-    single(given, 2, p, y)
-}
-
-// Above P: liquid, vapour, or region 3 between them.
-fn dense(given: Given, p: f64, y: f64) -> Outcome
-    ensures { λ r. ⌜ r ≡ outcomeOf (placedPY given p y (denseOf given p y)) ⌝ }
-{
-    if y <= property(given, 1, p, 623.15) {
-        return single(given, 1, p, y);
-    }
-    if y >= property(given, 2, p, saturation::t_b23(p)) {
-        return single(given, 2, p, y);
-    }
-    Outcome::Refused(5)
-}
-
-// Within the range of y at p, the state by the way that p lies to P.
-fn ranged(given: Given, p: f64, y: f64) -> Outcome
-    ensures { λ r. ⌜ r ≡ outcomeOf (placedPY given p y (rangedOf given p y)) ⌝ }
-{
-    let least = property(given, 1, p, 273.15);
-    let most = property(given, 2, p, 1073.15);
-    if outside(least, most, y) {
-        return Outcome::Refused(6);
-    }
-    if saturates(p) {
-        return saturated(given, p, y);
-    }
-    dense(given, p, y)
-}
-
 // From p in MPa and an h in kJ/kg or s in kJ/(kg K).
 pub(crate) fn of_py(given: Given, p: f64, y: f64) -> Outcome
     ensures { λ r. ⌜ r ≡ outcomeOf (answerPY given p y) ⌝ }
 {
-    if wild(p, y) {
-        return Outcome::Refused(1);
+    match place_py(given, p, y) {
+        Place::Region(n) => {
+            if n == 4 {
+                return Outcome::Wet(wet_at(given, p, y));
+            }
+            let t = temperature(given, n, p, y);
+            Outcome::Single(full_marked(given, n, p, y, t))
+        }
+        Place::Refused(n) => Outcome::Refused(n),
     }
-    if outside(0.000611213, 100.0, p) {
-        return Outcome::Refused(2);
-    }
-    ranged(given, p, y)
 }
 
 // From h in kJ/kg and s in kJ/(kg K).

@@ -1,13 +1,13 @@
 // The four kinds of query, and the query whose kind is a number (specs/Queries.antt).
 use crate::Answer;
-use crate::Given;
 use crate::outcomes::of_hs;
 use crate::outcomes::of_kind;
 use crate::outcomes::of_pt;
 use crate::outcomes::of_py;
 use crate::outcomes::shown;
+use states::Given;
 ghost use mathlib.Core.Path.{_≡_};
-ghost use Rattle.sums.specs.declared.Given.the-variants.{Enthalpy, Entropy};
+ghost use Rattle.states.specs.declared.Given.the-variants.{Enthalpy, Entropy};
 ghost use Rattle.sums.specs.Queries.{answerPT, answerPY, answerHS, answerOf};
 
 // From p in MPa and T in K.

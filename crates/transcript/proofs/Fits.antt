@@ -7,7 +7,7 @@ use lib.ListN.{length, length-append}
 use Rattle.text.specs.Texts.{blank, numberColumn}
 use Rattle.text.specs.declared.Cell.the-variants.{Value}
 use Rattle.text.proofs.Lengths.{digits, column-short, joined-short}
-use Rattle.sums.specs.declared.Single.{Single}
+use Rattle.states.specs.declared.Single.{Single}
 use Rattle.desk.specs.Search.{bit}
 use Rattle.desk.specs.Model.{row, counted}
 use Rattle.desk.specs.declared.Row.{Row}

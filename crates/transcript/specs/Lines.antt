@@ -5,7 +5,7 @@ use mathlib.Core.List.{List, [], _∷_, _++_}
 use lib.Ieee.{Float}
 use Rattle.text.specs.Texts.{columnOf, blank, newline, numberColumn, joined}
 use Rattle.text.specs.declared.Cell.the-variants.{Value}
-use Rattle.sums.specs.declared.Single.{Single}
+use Rattle.states.specs.declared.Single.{Single}
 use Rattle.desk.specs.Search.{bit}
 use Rattle.desk.specs.Model.{row, counted}
 use Rattle.desk.specs.declared.Row.{Row}

@@ -3,7 +3,7 @@ use crate::Call;
 use desk::Answer;
 use desk::Desk;
 use desk::Row;
-use sums::Single;
+use states::Single;
 use text::Cell;
 ghost use mathlib.Core.Path.{_≡_};
 ghost use mathlib.Core.List.{_++_};

@@ -7,7 +7,7 @@ use Rattle.text.specs.Texts.{columnOf, blank, newline, numberColumn}
 use Rattle.text.specs.declared.Cell.{Cell}
 use Rattle.text.proofs.Pieces.{then, said}
 use Rattle.sums.specs.Quotients.{quotientOf}
-use Rattle.sums.specs.declared.Derivative.{Derivative}
+use Rattle.slopes.specs.declared.Derivative.{Derivative}
 use Rattle.listing.specs.Lines.{refusalOf, quotientCell, quotientLine}
 use borrow.Author.Needs.{needs}
 use Rattle.listing.proofs.derivatives.line.Statement.{statement}

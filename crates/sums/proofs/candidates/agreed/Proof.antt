@@ -3,9 +3,8 @@ use borrow.Author.Needs.{needs}
 use mathlib.Core.Path.{ap}
 use lib.Ieee.{round, ofBits}
 use Rattle.arith.specs.Printed.{printed}
+use Rattle.states.specs.declared.Full.{Full}
 use Rattle.sums.specs.Queries.{agrees, agreedOf}
-use Rattle.sums.specs.Outcomes.{workedAt}
-use Rattle.sums.specs.declared.states.Worked.{Worked}
 use Rattle.sums.proofs.candidates.agreed.Statement.{statement}
 use Rattle.sums.proofs.candidates.agreed.Tie as tie
 
@@ -15,49 +14,41 @@ place-pt-requires c κs = search needs
 is-in-requires : tie.Need-is-in-requires
 is-in-requires c κs = search needs
 
-worked-at-requires : tie.Need-worked-at-requires
-worked-at-requires c κs = search needs
+full-marked-both-requires : tie.Need-full-marked-both-requires
+full-marked-both-requires c κs = search needs
 
 both-near-requires : tie.Need-both-near-requires
 both-near-requires c κs = search needs
 
-both-near-requires-2 : tie.Need-both-near-requires-2
-both-near-requires-2 c κs = search needs
-
-with-mark-requires : tie.Need-with-mark-requires
-with-mark-requires c κs = search needs
-
 returns : tie.Need-returns
-unfolding agrees agreedOf workedAt printed round ofBits
+unfolding agrees agreedOf printed round ofBits
 returns c =
-    let state = ap (λ (a : Worked). a .state) (c .before .before .before .before .before .worked-at .ensures) in
+    let state = ap (λ (a : Full). a .single .state) (c .before .before .before .before .full-marked-both .ensures) in
     rw (
-      ← c .before .before .before .before .before .before .before .before .place-pt .ensures,
-      ← c .before .before .before .before .before .before .before .is-in .ensures,
-      c .before .before .before .before .before .before .if1 .taken,
+      ← c .before .before .before .before .before .before .before .place-pt .ensures,
+      ← c .before .before .before .before .before .before .is-in .ensures,
+      c .before .before .before .before .before .if1 .taken,
       ← state,
-      ← c .before .before .before .both-near .ensures,
-      c .before .before .if2 .taken,
-      c .with-mark .ensures,
-      c .before .both-near2 .ensures,
-      c .before .before .before .before .before .worked-at .ensures,
+      ← c .before .both-near .ensures,
+      c .if2 .taken,
+      c .before .before .before .before .full-marked-both .ensures,
     )
 
 returns-2 : tie.Need-returns-2
-unfolding agrees agreedOf workedAt printed round ofBits
+unfolding agrees agreedOf printed round ofBits
 returns-2 c =
-    let state = ap (λ (a : Worked). a .state) (c .before .before .before .worked-at .ensures) in
+    let state = ap (λ (a : Full). a .single .state) (c .before .before .before .before .full-marked-both .ensures) in
     rw (
-      ← c .before .before .before .before .before .before .place-pt .ensures,
-      ← c .before .before .before .before .before .is-in .ensures,
-      c .before .before .before .before .if1 .taken,
+      ← c .before .before .before .before .before .before .before .place-pt .ensures,
+      ← c .before .before .before .before .before .before .is-in .ensures,
+      c .before .before .before .before .before .if1 .taken,
       ← state,
       ← c .before .both-near .ensures,
       c .if2 .left,
     )
 
 returns-3 : tie.Need-returns-3
-unfolding agrees agreedOf workedAt printed round ofBits
+unfolding agrees agreedOf printed round ofBits
 returns-3 c = rw (← c .before .before .place-pt .ensures, ← c .before .is-in .ensures, c .if1 .left)
 
 pub agreed-spec : {M : Type 1} → statement M
@@ -66,10 +57,8 @@ agreed-spec =
     (tie.spec
     place-pt-requires
     is-in-requires
-    worked-at-requires
+    full-marked-both-requires
     both-near-requires
-    both-near-requires-2
-    with-mark-requires
     returns
     returns-2
     returns-3)

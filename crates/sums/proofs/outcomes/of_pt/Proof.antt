@@ -1,7 +1,6 @@
 -- `sums::outcomes::of_pt` meets its contract: the place is that of p and T, and the state is worked there. Assumes nothing.
 use borrow.Author.Needs.{needs}
 use Rattle.sums.specs.Queries.{answerPT}
-use Rattle.sums.specs.Outcomes.{workedAt}
 use Rattle.sums.proofs.outcomes.of_pt.Statement.{statement}
 use Rattle.sums.proofs.outcomes.of_pt.Tie as tie
 
@@ -11,37 +10,26 @@ place-pt-requires c κs = search needs
 enum-known-n : tie.Need-enum-known-n
 enum-known-n c = search needs
 
-worked-at-requires : tie.Need-worked-at-requires
-worked-at-requires c κs = search needs
-
-with-mark-requires : tie.Need-with-mark-requires
-with-mark-requires c κs = search needs
+full-at-requires : tie.Need-full-at-requires
+full-at-requires c κs = search needs
 
 enum-known-n-2 : tie.Need-enum-known-n-2
 enum-known-n-2 c = search needs
 
 returns : tie.Need-returns
-unfolding answerPT workedAt
+unfolding answerPT
 returns c =
     rw (
-      c .with-mark .ensures,
-      c .before .worked-at .ensures,
-      ← c .before .before .before .before .before .place-pt .ensures,
-      c .before .before .before .n .given .1,
+      c .full-at .ensures,
+      ← c .before .before .before .before .place-pt .ensures,
+      c .before .before .n .given .1,
     )
 
 returns-2 : tie.Need-returns-2
-unfolding answerPT workedAt
+unfolding answerPT
 returns-2 c = rw (← c .before .before .before .place-pt .ensures, c .before .n2 .given .1)
 
 pub of-pt-spec : {M : Type 1} → statement M
 of-pt-spec =
     tie.close
-    (tie.spec
-    place-pt-requires
-    enum-known-n
-    worked-at-requires
-    with-mark-requires
-    enum-known-n-2
-    returns
-    returns-2)
+    (tie.spec place-pt-requires enum-known-n full-at-requires enum-known-n-2 returns returns-2)

@@ -1,39 +1,63 @@
--- `sums::outcomes::of_py` meets its contract: each return stands under the tests that led there. Assumes nothing.
+-- `sums::outcomes::of_py` meets its contract: the place is that of p and the h or s, and the state is worked there. Assumes nothing.
 use borrow.Author.Needs.{needs}
-use lib.Ieee.{round, ofBits, ofInt}
-use Rattle.arith.specs.Printed.{printed}
-use Rattle.sums.specs.Places.{placePY}
+use borrow.Author.Tests.{ne-eqb}
 use Rattle.sums.specs.Queries.{answerPY}
 use Rattle.sums.proofs.outcomes.of_py.Statement.{statement}
 use Rattle.sums.proofs.outcomes.of_py.Tie as tie
 
-wild-requires : tie.Need-wild-requires
-wild-requires c κs = search needs
+place-py-requires : tie.Need-place-py-requires
+place-py-requires c κs = search needs
+
+enum-known-n : tie.Need-enum-known-n
+enum-known-n c = search needs
+
+wet-at-requires : tie.Need-wet-at-requires
+wet-at-requires c κs = search needs
 
 returns : tie.Need-returns
-unfolding answerPY placePY printed round ofBits ofInt
-returns c = rw (← c .before .wild .ensures, c .if1 .taken)
+unfolding answerPY
+returns c =
+    rw (
+      c .wet-at .ensures,
+      ← c .before .before .before .before .before .place-py .ensures,
+      c .before .before .before .n .given .1,
+      c .before .if1 .taken,
+    )
 
-outside-requires : tie.Need-outside-requires
-outside-requires c κs = search needs
+temperature-requires : tie.Need-temperature-requires
+temperature-requires c κs = search needs
+
+full-marked-requires : tie.Need-full-marked-requires
+full-marked-requires c κs = search needs
+
+enum-known-n-2 : tie.Need-enum-known-n-2
+enum-known-n-2 c = search needs
 
 returns-2 : tie.Need-returns-2
-unfolding answerPY placePY printed round ofBits ofInt
-returns-2 c = rw (← c .before .before .before .wild .ensures, c .before .before .if1 .left, ← c .before .outside .ensures, c .if2 .taken)
-
-ranged-requires : tie.Need-ranged-requires
-ranged-requires c κs = search needs
+unfolding answerPY
+returns-2 c =
+    rw (
+      c .full-marked .ensures,
+      c .before .temperature .ensures,
+      ← c .before .before .before .before .before .before .place-py .ensures,
+      c .before .before .before .before .n .given .1,
+      ne-eqb _ _ (c .before .before .if1 .left),
+    )
 
 returns-3 : tie.Need-returns-3
-unfolding answerPY placePY printed round ofBits ofInt
-returns-3 c =
-    rw (
-      ← c .before .before .before .before .wild .ensures,
-      c .before .before .before .if1 .left,
-      ← c .before .before .outside .ensures,
-      c .before .if2 .left,
-    ) (c .ranged .ensures)
+unfolding answerPY
+returns-3 c = rw (← c .before .before .before .place-py .ensures, c .before .n2 .given .1)
 
 pub of-py-spec : {M : Type 1} → statement M
 of-py-spec =
-    tie.close (tie.spec wild-requires returns outside-requires returns-2 ranged-requires returns-3)
+    tie.close
+    (tie.spec
+    place-py-requires
+    enum-known-n
+    wet-at-requires
+    returns
+    temperature-requires
+    full-marked-requires
+    enum-known-n-2
+    returns-2
+    returns-3)

@@ -1,0 +1,64 @@
+-- `places::tables::place_pt` meets its contract: each return stands under the tests that led there. Assumes nothing.
+use borrow.Author.Needs.{needs}
+use lib.Ieee.{round, ofBits, ofInt}
+use Rattle.arith.specs.Printed.{printed}
+use Rattle.places.specs.Places.{placePT}
+use Rattle.places.proofs.tables.place_pt.Statement.{statement}
+use Rattle.places.proofs.tables.place_pt.Tie as tie
+
+wild-requires : tie.Need-wild-requires
+wild-requires c κs = search needs
+
+returns : tie.Need-returns
+unfolding placePT printed round ofBits ofInt
+returns c = rw (← c .before .wild .ensures, c .if1 .taken)
+
+outside-requires : tie.Need-outside-requires
+outside-requires c κs = search needs
+
+returns-2 : tie.Need-returns-2
+unfolding placePT printed round ofBits ofInt
+returns-2 c = rw (← c .before .before .before .wild .ensures, c .before .before .if1 .left, ← c .before .outside .ensures, c .if2 .taken)
+
+outside-requires-2 : tie.Need-outside-requires-2
+outside-requires-2 c κs = search needs
+
+returns-3 : tie.Need-returns-3
+unfolding placePT printed round ofBits ofInt
+returns-3 c =
+    rw (
+      ← c .before .before .before .before .before .wild .ensures,
+      c .before .before .before .before .if1 .left,
+      ← c .before .before .before .outside .ensures,
+      c .before .before .if2 .left,
+      ← c .before .outside2 .ensures,
+      c .if3 .taken,
+    )
+
+table-requires : tie.Need-table-requires
+table-requires c κs = search needs
+
+returns-4 : tie.Need-returns-4
+unfolding placePT printed round ofBits ofInt
+returns-4 c =
+    rw (
+      ← c .before .before .before .before .before .before .wild .ensures,
+      c .before .before .before .before .before .if1 .left,
+      ← c .before .before .before .before .outside .ensures,
+      c .before .before .before .if2 .left,
+      ← c .before .before .outside2 .ensures,
+      c .before .if3 .left,
+    ) (c .table .ensures)
+
+pub place-pt-spec : {M : Type 1} → statement M
+place-pt-spec =
+    tie.close
+    (tie.spec
+    wild-requires
+    returns
+    outside-requires
+    returns-2
+    outside-requires-2
+    returns-3
+    table-requires
+    returns-4)

@@ -1,0 +1,67 @@
+-- `places::tables::ranged` meets its contract: each return stands under the tests that led there. Assumes nothing.
+use borrow.Author.Needs.{needs}
+use lib.Ieee.{round, ofBits}
+use Rattle.arith.specs.Printed.{printed}
+use Rattle.places.specs.Places.{rangedOf}
+use Rattle.places.proofs.tables.ranged.Statement.{statement}
+use Rattle.places.proofs.tables.ranged.Tie as tie
+
+property-requires : tie.Need-property-requires
+property-requires c κs = search needs
+
+property-requires-2 : tie.Need-property-requires-2
+property-requires-2 c κs = search needs
+
+outside-requires : tie.Need-outside-requires
+outside-requires c κs = search needs
+
+returns : tie.Need-returns
+unfolding rangedOf printed round ofBits
+returns c = rw (← c .before .before .before .property .ensures, ← c .before .before .property2 .ensures, ← c .before .outside .ensures, c .if1 .taken)
+
+saturates-requires : tie.Need-saturates-requires
+saturates-requires c κs = search needs
+
+saturated-requires : tie.Need-saturated-requires
+saturated-requires c κs = search needs
+
+returns-2 : tie.Need-returns-2
+unfolding rangedOf printed round ofBits
+returns-2 c =
+    rw (
+      ← c .before .before .before .before .before .before .property .ensures,
+      ← c .before .before .before .before .before .property2 .ensures,
+      ← c .before .before .before .before .outside .ensures,
+      c .before .before .before .if1 .left,
+      ← c .before .before .saturates .ensures,
+      c .before .if2 .taken,
+    ) (c .saturated .ensures)
+
+dense-requires : tie.Need-dense-requires
+dense-requires c κs = search needs
+
+returns-3 : tie.Need-returns-3
+unfolding rangedOf printed round ofBits
+returns-3 c =
+    rw (
+      ← c .before .before .before .before .before .before .property .ensures,
+      ← c .before .before .before .before .before .property2 .ensures,
+      ← c .before .before .before .before .outside .ensures,
+      c .before .before .before .if1 .left,
+      ← c .before .before .saturates .ensures,
+      c .before .if2 .left,
+    ) (c .dense .ensures)
+
+pub ranged-spec : {M : Type 1} → statement M
+ranged-spec =
+    tie.close
+    (tie.spec
+    property-requires
+    property-requires-2
+    outside-requires
+    returns
+    saturates-requires
+    saturated-requires
+    returns-2
+    dense-requires
+    returns-3)

@@ -1,0 +1,45 @@
+-- `places::tables::saturated` meets its contract: each return stands under the tests that led there. Assumes nothing.
+use borrow.Author.Needs.{needs}
+use Rattle.places.specs.Places.{saturatedOf}
+use Rattle.places.proofs.tables.saturated.Statement.{statement}
+use Rattle.places.proofs.tables.saturated.Tie as tie
+
+ts-requires : tie.Need-ts-requires
+ts-requires c κs = search needs
+
+property-requires : tie.Need-property-requires
+property-requires c κs = search needs
+
+returns : tie.Need-returns
+unfolding saturatedOf
+returns c = rw (← c .before .before .ts .ensures, ← c .before .property .ensures, c .if1 .taken)
+
+property-requires-2 : tie.Need-property-requires-2
+property-requires-2 c κs = search needs
+
+returns-2 : tie.Need-returns-2
+unfolding saturatedOf
+returns-2 c =
+    rw (
+      ← c .before .before .before .before .ts .ensures,
+      ← c .before .before .before .property .ensures,
+      c .before .before .if1 .left,
+      ← c .before .property2 .ensures,
+      c .if2 .taken,
+    )
+
+returns-3 : tie.Need-returns-3
+unfolding saturatedOf
+returns-3 c =
+    rw (
+      ← c .before .before .before .before .ts .ensures,
+      ← c .before .before .before .property .ensures,
+      c .before .before .if1 .left,
+      ← c .before .property2 .ensures,
+      c .if2 .left,
+    )
+
+pub saturated-spec : {M : Type 1} → statement M
+saturated-spec =
+    tie.close
+    (tie.spec ts-requires property-requires returns property-requires-2 returns-2 returns-3)

@@ -1,0 +1,55 @@
+-- `places::tables::table` meets its contract: each return stands under the tests that led there. Assumes nothing.
+use borrow.Author.Needs.{needs}
+use lib.Ieee.{round, ofBits, ofInt}
+use Rattle.arith.specs.Printed.{printed}
+use Rattle.places.specs.Places.{tableOf}
+use Rattle.places.proofs.tables.table.Statement.{statement}
+use Rattle.places.proofs.tables.table.Tie as tie
+
+ps-requires : tie.Need-ps-requires
+ps-requires c κs = search needs
+
+returns : tie.Need-returns
+unfolding tableOf printed round ofBits ofInt
+returns c = rw (c .before .before .if1 .taken, ← c .before .ps .ensures, c .if2 .taken)
+
+returns-2 : tie.Need-returns-2
+unfolding tableOf printed round ofBits ofInt
+returns-2 c = rw (c .before .before .if1 .taken, ← c .before .ps .ensures, c .if2 .left)
+
+p-b23-requires : tie.Need-p-b23-requires
+p-b23-requires c κs = search needs
+
+returns-3 : tie.Need-returns-3
+unfolding tableOf printed round ofBits ofInt
+returns-3 c = rw (c .before .before .before .if1 .left, c .before .before .if3 .taken, ← c .before .p-b23 .ensures, c .if4 .taken)
+
+returns-4 : tie.Need-returns-4
+unfolding tableOf printed round ofBits ofInt
+returns-4 c = rw (c .before .before .before .if1 .left, c .before .before .if3 .taken, ← c .before .p-b23 .ensures, c .if4 .left)
+
+returns-5 : tie.Need-returns-5
+unfolding tableOf printed round ofBits ofInt
+returns-5 c = rw (c .before .before .if1 .left, c .before .if3 .left, c .if5 .taken)
+
+returns-6 : tie.Need-returns-6
+unfolding tableOf printed round ofBits ofInt
+returns-6 c = rw (c .before .before .before .if1 .left, c .before .before .if3 .left, c .before .if5 .left, c .if6 .taken)
+
+returns-7 : tie.Need-returns-7
+unfolding tableOf printed round ofBits ofInt
+returns-7 c = rw (c .before .before .before .if1 .left, c .before .before .if3 .left, c .before .if5 .left, c .if6 .left)
+
+pub table-spec : {M : Type 1} → statement M
+table-spec =
+    tie.close
+    (tie.spec
+    ps-requires
+    returns
+    returns-2
+    p-b23-requires
+    returns-3
+    returns-4
+    returns-5
+    returns-6
+    returns-7)

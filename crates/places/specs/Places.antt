@@ -1,0 +1,108 @@
+-- Where a query lies: the region table of (p,T), and the regions of (p,h) and (p,s). Refusals come in the order of the refusal table. Definitions only.
+-- A comparison with NaN is false.
+use Prim.Native.Nat.{ℕ}
+use mathlib.Core.Bool.{Bool, true, false, cond, not, _||_}
+use lib.Ieee.{Float, lt, le}
+use Rattle.arith.specs.F64.{f64}
+use Rattle.arith.specs.Printed.{less, printed}
+use Rattle.arith.specs.Bits.{finite}
+use Rattle.saturation.specs.Saturation.{psOf, tsOf}
+use Rattle.saturation.specs.Boundaries.{pB23, tB23}
+use Rattle.places.specs.declared.Place.{Place}
+use Rattle.places.specs.declared.Place.the-variants.{Region, Refused}
+use Rattle.states.specs.declared.Given.{Given}
+use Rattle.states.specs.States.{propertyAt}
+
+-- an input that is NaN or infinite
+abbrev pub wild : Float → Float → Bool
+wild x y = not (finite x) || not (finite y)
+
+-- below the first or above the second: the ends themselves are inside
+abbrev pub outside : Float → Float → Float → Bool
+outside least most x = lt x least || lt most x
+
+-- temperatures in K
+abbrev pub t273 : Float
+t273 = printed false 27315 (less 2)
+
+abbrev pub t623 : Float
+t623 = printed false 62315 (less 2)
+
+abbrev pub t863 : Float
+t863 = printed false 86315 (less 2)
+
+abbrev pub t1073 : Float
+t1073 = printed false 107315 (less 2)
+
+abbrev pub t2273 : Float
+t2273 = printed false 227315 (less 2)
+
+-- pressures in MPa: the house limit of (p,T), the least of the other kinds, the greatest of all, and the greatest of region 5
+abbrev pub pHouse : Float
+pHouse = printed false 1 (less 6)
+
+abbrev pub pTriple : Float
+pTriple = printed false 611213 (less 9)
+
+abbrev pub pMost : Float
+pMost = f64 100
+
+abbrev pub pMost5 : Float
+pMost5 = f64 10
+
+-- P = ps(623.15), where the saturation line meets region 3
+unfoldable pub pEnd : Float
+pEnd = psOf t623
+
+-- ---- (p,T)
+
+-- the region table, read downwards; region 3 is refused by 5
+unfoldable pub tableOf : Float → Float → Place
+tableOf p t =
+    cond (le t t623) (cond (le (psOf t) p) (Region 1) (Region 2))
+    (cond (le t t863) (cond (le p (pB23 t)) (Region 2) (Refused 5))
+    (cond (le t t1073) (Region 2)
+    (cond (le p pMost5) (Region 5) (Refused 4))))
+
+unfoldable pub placePT : Float → Float → Place
+placePT p t =
+    cond (wild p t) (Refused 1)
+    (cond (outside pHouse pMost p) (Refused 2)
+    (cond (outside t273 t2273 t) (Refused 3)
+    (tableOf p t)))
+
+-- ---- (p,h) and (p,s): y is the h or s given
+
+-- p ≤ P: y' and y'' are those of saturated liquid and vapour, and both are wet
+unfoldable pub saturatedOf : Given → Float → Float → Place
+saturatedOf given p y =
+    cond (lt y (propertyAt given 1 p (tsOf p))) (Region 1)
+    (cond (le y (propertyAt given 2 p (tsOf p))) (Region 4)
+    (Region 2))
+
+-- p > P: between the liquid up to 623.15 K and the vapour from the boundary B23 on lies region 3
+unfoldable pub denseOf : Given → Float → Float → Place
+denseOf given p y =
+    cond (le y (propertyAt given 1 p t623)) (Region 1)
+    (cond (le (propertyAt given 2 p (tB23 p)) y) (Region 2)
+    (Refused 5))
+
+-- y runs from that of region 1 at 273.15 K to that of region 2 at 1073.15 K
+unfoldable pub rangedOf : Given → Float → Float → Place
+rangedOf given p y =
+    cond (outside (propertyAt given 1 p t273) (propertyAt given 2 p t1073) y) (Refused 6)
+    (cond (le p pEnd) (saturatedOf given p y)
+    (denseOf given p y))
+
+unfoldable pub placePY : Given → Float → Float → Place
+placePY given p y =
+    cond (wild p y) (Refused 1)
+    (cond (outside pTriple pMost p) (Refused 2)
+    (rangedOf given p y))
+
+-- the temperature at which region 1 ends, and at which region 2 begins: the saturation line up to P, region 3's boundaries above
+unfoldable pub liquidEnd : Float → Float
+liquidEnd p = cond (le p pEnd) (tsOf p) t623
+
+unfoldable pub vapourStart : Float → Float
+vapourStart p = cond (le p pEnd) (tsOf p) (tB23 p)

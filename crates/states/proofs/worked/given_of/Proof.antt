@@ -1,0 +1,22 @@
+-- `states::worked::given_of` meets its contract: by cases. Assumes nothing.
+use borrow.Author.Needs.{needs}
+use Rattle.states.specs.States.{givenOf}
+use Rattle.states.proofs.worked.given_of.Statement.{statement}
+use Rattle.states.proofs.worked.given_of.Tie as tie
+
+enum-told : tie.Need-enum-told
+enum-told c = search needs
+
+enum-told-2 : tie.Need-enum-told-2
+enum-told-2 c = search needs
+
+returns : tie.Need-returns
+unfolding givenOf
+returns c = rw (c .enum-told .given .1)
+
+returns-2 : tie.Need-returns-2
+unfolding givenOf
+returns-2 c = rw (c .enum-told2 .given .1)
+
+pub given-of-spec : {M : Type 1} → statement M
+given-of-spec = tie.close (tie.spec enum-told enum-told-2 returns returns-2)

@@ -1,0 +1,36 @@
+-- Wet states: saturated liquid and vapour mixed by the quality. Definitions only.
+use lib.Ieee.{Float}
+use Rattle.arith.specs.F64.{_⊕_, _⊖_, _⊗_, _⊘_}
+use Rattle.properties.specs.declared.State.{State}
+use Rattle.saturation.specs.Saturation.{tsOf}
+use Rattle.liquid.specs.Region1.{state1}
+use Rattle.vapour.specs.Region2.{state2}
+use Rattle.states.specs.States.{givenOf}
+use Rattle.states.specs.Marks.{verifiedOf}
+use Rattle.states.specs.declared.Given.{Given}
+use Rattle.states.specs.declared.Wet.{Wet}
+
+-- By 004: of the saturated liquid ' and vapour '' at Ts(p), each property is a' + x·(a'' - a').
+abbrev pub mixed : Float → Float → Float → Float
+mixed x a' a'' = a' ⊕ x ⊗ (a'' ⊖ a')
+
+unfoldable pub mixtureOf : Given → Float → Float → Float → State → State → Wet
+mixtureOf given p y t liquid vapour =
+    let y' = givenOf given (liquid .h) (liquid .s) in
+    let y'' = givenOf given (vapour .h) (vapour .s) in
+    let x = (y ⊖ y') ⊘ (y'' ⊖ y') in
+    let h = mixed x (liquid .h) (vapour .h) in
+    let s = mixed x (liquid .s) (vapour .s) in
+    record {
+      p = p;
+      t = t;
+      v = mixed x (liquid .v) (vapour .v);
+      u = mixed x (liquid .u) (vapour .u);
+      h = h;
+      s = s;
+      x = x;
+      verified = verifiedOf given h s y;
+    }
+
+unfoldable pub wetOf : Given → Float → Float → Wet
+wetOf given p y = let t = tsOf p in mixtureOf given p y t (state1 p t) (state2 p t)

@@ -1,0 +1,50 @@
+// States: that of a region at p and T, one of its properties alone, the mark whether it comes back
+// to what was asked, and the wet states between saturated liquid and vapour. Every call takes every
+// number; what it answers is said in specs/. Units: p in MPa, T in K, v in m³/kg, u and h in kJ/kg,
+// s and cp in kJ/(kg K), w in m/s.
+mod marks;
+mod mixing;
+mod worked;
+
+pub use marks::both_near;
+pub use marks::full_at;
+pub use marks::full_marked;
+pub use marks::full_marked_both;
+pub use marks::marked;
+pub use mixing::wet_at;
+use properties::Response;
+use properties::State;
+pub use worked::property;
+
+// Which property a query gives beside p.
+pub enum Given {
+    Enthalpy,
+    Entropy,
+}
+
+// A state of one phase, with the mark whether the forward equations come back to what was asked.
+pub struct Single {
+    pub region: u64,
+    pub p: f64,
+    pub t: f64,
+    pub state: State,
+    pub verified: bool,
+}
+
+// A state with what its derivatives need besides, from one working of the sums.
+pub struct Full {
+    pub single: Single,
+    pub response: Response,
+}
+
+// A wet state of quality x, which has no cp and no w.
+pub struct Wet {
+    pub p: f64,
+    pub t: f64,
+    pub v: f64,
+    pub u: f64,
+    pub h: f64,
+    pub s: f64,
+    pub x: f64,
+    pub verified: bool,
+}

@@ -1,0 +1,48 @@
+// Wet states: the saturated liquid and vapour mixed by the quality (004; specs/Mixing.antt).
+use crate::Given;
+use crate::Wet;
+use crate::marks::verified;
+use crate::worked::given_of;
+use liquid::Region1;
+use properties::State;
+use vapour::Region2;
+ghost use mathlib.Core.Path.{_≡_};
+ghost use Rattle.states.specs.Mixing.{mixed, mixtureOf, wetOf};
+
+// a' + x·(a'' - a').
+fn mixed(x: f64, liquid: f64, vapour: f64) -> f64
+    ensures { λ r. ⌜ r ≡ mixed x liquid vapour ⌝ }
+{
+    liquid + x * (vapour - liquid)
+}
+
+// The wet state at p and its Ts that has the h or s asked.
+fn mixture(given: Given, p: f64, y: f64, t: f64, liquid: State, vapour: State) -> Wet
+    ensures { λ r. ⌜ r ≡ mixtureOf given p y t liquid vapour ⌝ }
+{
+    let least = given_of(given, liquid.h, liquid.s);
+    let most = given_of(given, vapour.h, vapour.s);
+    let x = (y - least) / (most - least);
+    let h = mixed(x, liquid.h, vapour.h);
+    let s = mixed(x, liquid.s, vapour.s);
+    Wet {
+        p,
+        t,
+        v: mixed(x, liquid.v, vapour.v),
+        u: mixed(x, liquid.u, vapour.u),
+        h,
+        s,
+        x,
+        verified: verified(given, h, s, y),
+    }
+}
+
+// The wet state at p in MPa that has the h in kJ/kg or s in kJ/(kg K) asked.
+pub fn wet_at(given: Given, p: f64, y: f64) -> Wet
+    ensures { λ r. ⌜ r ≡ wetOf given p y ⌝ }
+{
+    let t = saturation::ts(p);
+    let liquid = Region1::state(p, t);
+    let vapour = Region2::state(p, t);
+    mixture(given, p, y, t, liquid, vapour)
+}
