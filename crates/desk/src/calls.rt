@@ -2,19 +2,20 @@
 ghost use mathlib.Core.Path.{_≡_};
 ghost use Prim.Native.Nat.{_<_};
 ghost use mathlib.Core.Bool.{true};
-ghost use Rattle.desk.specs.Model.{due, sound, newDesk, refuse, admitted, postOf, halvedRow, turnOf, openOf, peekOf, emptied, collectOf, withdrawOf};
+ghost use Rattle.rows.specs.Rows.{due, sound};
+ghost use Rattle.desk.specs.Model.{newDesk, refuse, admitted, postOf, halvedRow, turnOf, openOf, peekOf, emptied, collectOf, withdrawOf};
 use super::Answer;
-use super::Desk;
 use super::Open;
 use super::Outcome;
-use super::Row;
-use super::Want;
-use super::rows::HALVINGS;
-use super::rows::blank_row;
-use super::rows::count_open;
-use super::rows::places_on;
-use super::sound::TICKETS;
-use super::sound::is_sound;
+use rows::Desk;
+use rows::HALVINGS;
+use rows::Row;
+use rows::TICKETS;
+use rows::Want;
+use rows::blank_row;
+use rows::count_open;
+use rows::is_sound;
+use rows::places_on;
 use settle::Judged;
 
 // A desk with every row empty and every number in it 0.

@@ -4,8 +4,8 @@ use borrow.Author.Needs.{needs}
 use Prim.Native.Nat.{_<_}
 use borrow.Author.Tests.{le-ltb, lt-ltb}
 use Rattle.desk.specs.Model.{admitted}
-use Rattle.desk.proofs.Good.{sound-good, free-row}
-use Rattle.desk.proofs.Lists.{rows-long, counts-long}
+use Rattle.rows.proofs.Good.{sound-good, free-row}
+use Rattle.rows.proofs.Lists.{rows-long, counts-long}
 use Rattle.desk.proofs.calls.admit.Statement.{statement}
 use Rattle.desk.proofs.calls.admit.Tie as tie
 

@@ -5,8 +5,8 @@ use mathlib.Core.Path.{sym, _∙_}
 use Prim.Native.Nat.{_<_}
 use borrow.Author.Tests.{not-true, not-false, le-ltb}
 use Rattle.desk.specs.Model.{turnOf}
-use Rattle.desk.proofs.Good.{sound-good}
-use Rattle.desk.proofs.Lists.{rows-long, counts-long}
+use Rattle.rows.proofs.Good.{sound-good}
+use Rattle.rows.proofs.Lists.{rows-long, counts-long}
 use Rattle.desk.proofs.Ways.{turn-goes-on, turn-halves}
 use Rattle.desk.proofs.calls.turn.Statement.{statement}
 use Rattle.desk.proofs.calls.turn.Tie as tie
