@@ -8,10 +8,10 @@ use Rattle.text.specs.Texts.{blank, numberColumn}
 use Rattle.text.specs.declared.Cell.the-variants.{Value}
 use Rattle.text.proofs.Lengths.{digits, column-short, joined-short}
 use Rattle.sums.specs.declared.Single.{Single}
-use Rattle.desk.specs.Search.{bit}
-use Rattle.desk.specs.Model.{row, counted}
-use Rattle.desk.specs.declared.Row.{Row}
-use Rattle.desk.specs.declared.Desk.{Desk}
+use Rattle.rows.specs.Search.{bit}
+use Rattle.rows.specs.Rows.{row, counted}
+use Rattle.rows.specs.declared.Row.{Row}
+use Rattle.rows.specs.declared.Desk.{Desk}
 use Rattle.desk.specs.declared.Answer.{Answer}
 use Rattle.desk.specs.declared.Answer.the-variants.{Refused, Ticket, Halved, Idle, Shown, State, Freed}
 use Rattle.transcript.specs.declared.Call.{Call}
