@@ -1,11 +1,12 @@
 -- What owning a desk tells of its lists: 32 rows and 8 counts, and the row that the code reads is the model's. Assumes nothing.
-use Prim.Native.Nat.{ℕ, zero, suc, _<_}
+use Prim.Native.Nat.{ℕ, zero, suc, _*_, _<_}
 use mathlib.Core.Path.{_≡_, refl, sym, ap, _∙_}
 use mathlib.Core.Bool.{Bool}
 use mathlib.Core.List.{List, [], _∷_, map}
 use native.Mathlib.Omega.{arith}
 use lib.ListN.{length, getD, replicate, length-map}
-use mir.Val.{Val}
+use mir.Syntax.{w64}
+use mir.Val.{Val, Fits}
 use denote.Laws.{Is}
 use denote.Struct.Declared.{row as owned}
 use Rattle.rows.proofs.Desk as DeskT
@@ -27,6 +28,13 @@ any : {A : Type 0} (l : List A) (i : ℕ) (a b : A) → i < length l → getD l 
 any [] i a b h = absurd (omega arith)
 any (x ∷ xs) zero a b h = refl
 any (x ∷ xs) (suc i) a b h = any xs i a b (omega arith)
+
+-- the bytes before a row, 80 to each, and before a count, 8 to each
+pub row-fits : (i : ℕ) → i < 32 → Fits w64 (i * 80)
+row-fits i h = omega arith
+
+pub count-fits : (c : ℕ) → c < 8 → Fits w64 (c * 8)
+count-fits c h = omega arith
 
 module _ (d : Desk) (vs : List Val) (own : Is (owned DeskT.the-type) d vs) where
   pub rows-long : length (d .rows) ≡ 32

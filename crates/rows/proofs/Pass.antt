@@ -11,6 +11,8 @@ use native.Mathlib.Numerals.{add-one}
 use lib.ListN.{getD, set, length, length-set, replicate, length-replicate}
 use lib.Seq.{getD-set-same, getD-set-other}
 use lib.Dec.{eqb}
+use mir.Syntax.{w64}
+use mir.Val.{Fits}
 use borrow.Author.Tests.{ltb-true, ltb-false, eq-eqb, ne-eqb}
 use Rattle.rows.specs.declared.Row.{Row}
 use Rattle.rows.specs.declared.Desk.{Desk}
@@ -46,6 +48,27 @@ passed-none d = record {
   seen-all = λ c l. noughts 8 c;
   noted-all = λ c t l. rw (noughts 8 c);
 }
+
+-- the four places of caller c, and the n-th of them: numbers that the code can hold
+module _ (c : ℕ) (low : c < 8) where
+  pub places-fit : Fits w64 (4 * c)
+  places-fit = omega arith
+
+  module _ (n : ℕ) (room : n ≤ 3) where
+    pub place-fits : Fits w64 (4 * c + n)
+    place-fits = omega arith
+
+    pub place-bytes : Fits w64 ((4 * c + n) * 8)
+    place-bytes = omega arith
+
+    pub place-in : 4 * c + n < 32
+    place-in = omega arith
+
+    pub place-to : 4 * c + n ≤ 32
+    place-to = omega arith
+
+pub seen-fits : (n : ℕ) → n ≤ 3 → Fits w64 (n + 1)
+seen-fits n room = omega arith
 
 -- one more ticket noted
 module _ (tickets : List ℕ) (places : length tickets ≡ 32) (c n t u : ℕ) (low : c < 8) (room : n ≤ 3) where

@@ -4,6 +4,7 @@ use mathlib.Core.Logic.{_≢_}
 use mathlib.Core.Bool.{Bool, true, false, not, _&&_}
 use mathlib.Core.List.{List}
 use Prim.Native.Nat.{ℕ, _≤_, _<_}
+use native.Mathlib.Omega.{arith}
 use lib.Dec.{leb, ltb, eqb}
 use lib.ListN.{getD}
 use borrow.Author.Tests.{ltb-true, leb-true, eqb-true, not-true, not-false, lt-ltb, le-leb, eq-eqb}
@@ -68,6 +69,9 @@ module _ (r : Row) where
   pub not-vacant : vacant r ≡ false → r .filled ≡ true
   unfolding vacant
   not-vacant e = not-false (r .filled) e
+
+pub never : (a b : ℕ) → a < b → b ≤ a → ⊥
+never a b h l = omega arith
 
 -- a filled row that is right by itself
 pub record Right (counts : List ℕ) (r : Row) : Type 0 where

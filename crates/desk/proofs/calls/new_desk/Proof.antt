@@ -5,7 +5,7 @@ use Rattle.desk.proofs.calls.new_desk.Statement.{statement}
 use Rattle.desk.proofs.calls.new_desk.Tie as tie
 
 blank-row-requires : tie.Need-blank-row-requires
-blank-row-requires c κs = search needs
+blank-row-requires c κs = tt
 
 returns : tie.Need-returns
 unfolding newDesk

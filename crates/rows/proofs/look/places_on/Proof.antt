@@ -35,7 +35,7 @@ element-copy-out-r : tie.Need-element-copy-out-r Inv-loop μ-loop
 element-copy-out-r c = omega arith
 
 meets-requires : tie.Need-meets-requires Inv-loop μ-loop
-meets-requires c κs = search needs
+meets-requires c κs = tt
 
 returns : tie.Need-returns Inv-loop μ-loop
 unfolding onward

@@ -8,17 +8,17 @@ use Rattle.rows.proofs.sound.is_sound.Tie as tie
 
 returns : tie.Need-returns
 unfolding sound
-returns c = rw (lt-leb _ _ (c .if1 .taken))
+returns c = rw (lt-leb _ 31 (c .if1 .taken))
 
 counts-right-requires : tie.Need-counts-right-requires
-counts-right-requires c κs = search needs
+counts-right-requires c κs = tt
 
 returns-2 : tie.Need-returns-2
 unfolding sound
 returns-2 c = rw (le-leb _ _ (c .before .before .before .before .if1 .left), sym (c .before .counts-right .ensures) ∙ not-true _ (c .if2 .taken))
 
 rows-right-requires : tie.Need-rows-right-requires
-rows-right-requires c κs = search needs
+rows-right-requires c κs = tt
 
 returns-3 : tie.Need-returns-3
 unfolding sound

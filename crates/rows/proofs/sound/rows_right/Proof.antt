@@ -5,8 +5,8 @@ use mathlib.Core.Path.{sym, _∙_}
 use Prim.Native.Nat.{_-_}
 use borrow.Author.Tests.{not-true}
 use Rattle.rows.proofs.Tests.{told-right}
-use Rattle.rows.proofs.Lists.{row-is}
-use Rattle.rows.proofs.Pass.{Passed, passed-none, passed-empty, passed-filled, passed-all, wrong-row, fifth-row, ticket-again}
+use Rattle.rows.proofs.Lists.{row-fits, count-fits, row-is}
+use Rattle.rows.proofs.Pass.{places-fit, place-fits, place-bytes, place-in, place-to, seen-fits, Passed, passed-none, passed-empty, passed-filled, passed-all, wrong-row, fifth-row, ticket-again}
 use Rattle.rows.proofs.sound.rows_right.Statement.{statement}
 use Rattle.rows.proofs.sound.rows_right.Tie as tie
 
@@ -20,16 +20,16 @@ loop-holds : tie.Need-loop-holds Inv-loop μ-loop
 loop-holds c = passed-none _
 
 mul-r : tie.Need-mul-r Inv-loop μ-loop
-mul-r c = search needs
+mul-r c = row-fits _ (c .loop-test .taken)
 
 element-copy-out-r : tie.Need-element-copy-out-r Inv-loop μ-loop
-element-copy-out-r c = search needs
+element-copy-out-r c = c .loop-test .taken
 
 add-i : tie.Need-add-i Inv-loop μ-loop
 add-i c = search needs
 
 row-right-requires : tie.Need-row-right-requires Inv-loop μ-loop
-row-right-requires c κs = search needs
+row-right-requires c κs = tt
 
 returns : tie.Need-returns Inv-loop μ-loop
 returns c =
@@ -40,10 +40,10 @@ returns c =
     sym (wrong-row (s .args .t1) (l .loop .i) (l .loop .tickets) (l .loop .seen) (l .loop .inv) h _ same (c .before .before .before .if1 .taken) (sym (c .before .row-right .ensures) ∙ not-true _ (c .if2 .taken)))
 
 mul-n : tie.Need-mul-n Inv-loop μ-loop
-mul-n c = omega (arith, told-right _ _ _ (c .before .row-right .ensures) (c .if2 .left) .known)
+mul-n c = count-fits _ (told-right _ _ _ (c .before .row-right .ensures) (c .if2 .left) .known)
 
 array-read-n : tie.Need-array-read-n Inv-loop μ-loop
-array-read-n c = omega (arith, told-right _ _ _ (c .before .row-right .ensures) (c .if2 .left) .known)
+array-read-n c = told-right _ _ _ (c .before .row-right .ensures) (c .if2 .left) .known
 
 returns-2 : tie.Need-returns-2 Inv-loop μ-loop
 returns-2 c =
@@ -54,10 +54,10 @@ returns-2 c =
     sym (fifth-row (s .args .t1) (l .loop .i) (l .loop .tickets) (l .loop .seen) (l .loop .inv) h _ same (c .before .before .before .before .if1 .taken) ((told-right _ _ _ (c .before .before .row-right .ensures) (c .before .if2 .left)) .known) (c .if3 .taken))
 
 mul-noted : tie.Need-mul-noted Inv-loop μ-loop
-mul-noted c = omega (arith, told-right _ _ _ (c .before .before .before .row-right .ensures) (c .before .before .if2 .left) .known)
+mul-noted c = places-fit _ (told-right _ _ _ (c .before .before .before .row-right .ensures) (c .before .before .if2 .left) .known)
 
 noted-requires : tie.Need-noted-requires Inv-loop μ-loop
-noted-requires c κs = omega (arith, told-right _ _ _ (c .before .before .before .row-right .ensures) (c .before .before .if2 .left) .known)
+noted-requires c κs = place-to _ (told-right _ _ _ (c .before .before .before .row-right .ensures) (c .before .before .if2 .left) .known) _ (c .before .if3 .left)
 
 returns-3 : tie.Need-returns-3 Inv-loop μ-loop
 returns-3 c =
@@ -68,25 +68,25 @@ returns-3 c =
     sym (ticket-again (s .args .t1) (l .loop .i) (l .loop .tickets) (l .loop .seen) (l .loop .inv) h _ same (c .before .before .before .before .before .before .before .if1 .taken) ((told-right _ _ _ (c .before .before .before .before .before .row-right .ensures) (c .before .before .before .before .if2 .left)) .known) _ (c .before .noted .ensures) (c .if4 .taken))
 
 mul-tickets : tie.Need-mul-tickets Inv-loop μ-loop
-mul-tickets c = omega (arith, told-right _ _ _ (c .before .before .before .before .before .row-right .ensures) (c .before .before .before .before .if2 .left) .known)
+mul-tickets c = places-fit _ (told-right _ _ _ (c .before .before .before .before .before .row-right .ensures) (c .before .before .before .before .if2 .left) .known)
 
 add-tickets : tie.Need-add-tickets Inv-loop μ-loop
-add-tickets c = omega (arith, told-right _ _ _ (c .before .before .before .before .before .row-right .ensures) (c .before .before .before .before .if2 .left) .known)
+add-tickets c = place-fits _ (told-right _ _ _ (c .before .before .before .before .before .row-right .ensures) (c .before .before .before .before .if2 .left) .known) _ (c .before .before .before .if3 .left)
 
 mul-tickets-2 : tie.Need-mul-tickets-2 Inv-loop μ-loop
-mul-tickets-2 c = omega (arith, told-right _ _ _ (c .before .before .before .before .before .row-right .ensures) (c .before .before .before .before .if2 .left) .known)
+mul-tickets-2 c = place-bytes _ (told-right _ _ _ (c .before .before .before .before .before .row-right .ensures) (c .before .before .before .before .if2 .left) .known) _ (c .before .before .before .if3 .left)
 
 array-write-tickets : tie.Need-array-write-tickets Inv-loop μ-loop
-array-write-tickets c = omega (arith, told-right _ _ _ (c .before .before .before .before .before .row-right .ensures) (c .before .before .before .before .if2 .left) .known)
+array-write-tickets c = place-in _ (told-right _ _ _ (c .before .before .before .before .before .row-right .ensures) (c .before .before .before .before .if2 .left) .known) _ (c .before .before .before .if3 .left)
 
 add-seen : tie.Need-add-seen Inv-loop μ-loop
-add-seen c = search needs
+add-seen c = seen-fits _ (c .before .before .before .if3 .left)
 
 mul-seen : tie.Need-mul-seen Inv-loop μ-loop
-mul-seen c = omega (arith, told-right _ _ _ (c .before .before .before .before .before .row-right .ensures) (c .before .before .before .before .if2 .left) .known)
+mul-seen c = count-fits _ (told-right _ _ _ (c .before .before .before .before .before .row-right .ensures) (c .before .before .before .before .if2 .left) .known)
 
 array-write-seen : tie.Need-array-write-seen Inv-loop μ-loop
-array-write-seen c = omega (arith, told-right _ _ _ (c .before .before .before .before .before .row-right .ensures) (c .before .before .before .before .if2 .left) .known)
+array-write-seen c = told-right _ _ _ (c .before .before .before .before .before .row-right .ensures) (c .before .before .before .before .if2 .left) .known
 
 loop-less : tie.Need-loop-less Inv-loop μ-loop
 loop-less c = omega arith
