@@ -1,7 +1,7 @@
 -- The desk by its rules: for each call the answer and the desk that it leaves. Definitions only.
 -- Of the settling layer this knows only what it publishes: a query judged, one halving, the state at the end.
 use Prim.Native.Nat.{ℕ, _+_, _%_}
-use mathlib.Core.Bool.{Bool, true, cond, _&&_}
+use mathlib.Core.Bool.{true, cond, _&&_}
 use lib.Dec.{ltb}
 use lib.ListN.{set, replicate}
 use lib.Ieee.{Float}

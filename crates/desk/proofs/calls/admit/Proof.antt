@@ -1,5 +1,4 @@
 -- `desk::calls::admit` meets its contract: 13, 10, or the lowest free row, which a sound desk has for a caller with fewer than four open. Assumes nothing.
-use native.Mathlib.Omega.{arith}
 use borrow.Author.Needs.{needs}
 use Prim.Native.Nat.{_<_}
 use borrow.Author.Tests.{le-ltb, lt-ltb}

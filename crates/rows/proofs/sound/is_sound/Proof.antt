@@ -1,5 +1,4 @@
 -- `rows::sound::is_sound` meets its contract: the pointer, the counts and the rows, in that order. Assumes nothing.
-use borrow.Author.Needs.{needs}
 use mathlib.Core.Path.{sym, _∙_}
 use borrow.Author.Tests.{lt-leb, le-leb, not-true, not-false}
 use Rattle.rows.specs.Rows.{sound}
