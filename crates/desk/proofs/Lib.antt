@@ -1,10 +1,5 @@
 pub mod Only
-pub mod Search
-pub mod Tests
-pub mod Changes
-pub mod Good
-pub mod Pass
-pub mod Lists
 pub mod Tickets
 pub mod Ways
+pub mod Halved
 pub mod Runs

@@ -1,4 +1,2 @@
-pub mod Search
 pub mod Model
-pub mod Noted
 pub mod Runs

@@ -1,20 +1,22 @@
 // The calls of the desk. Each tests the desk first; a refused call gives it back as it came.
 ghost use mathlib.Core.Path.{_≡_};
 ghost use Prim.Native.Nat.{_<_};
-ghost use mathlib.Core.Bool.{true};
-ghost use Rattle.desk.specs.Model.{due, sound, newDesk, refuse, admitted, postOf, halvedRow, turnOf, openOf, peekOf, emptied, collectOf, withdrawOf};
+ghost use mathlib.Core.Bool.{true, _&&_};
+ghost use lib.Dec.{ltb};
+ghost use Rattle.rows.specs.Rows.{due, between, sound};
+ghost use Rattle.desk.specs.Model.{newDesk, refuse, admitted, postOf, halvedRow, turnOf, openOf, peekOf, emptied, collectOf, withdrawOf};
 use super::Answer;
-use super::Desk;
 use super::Open;
 use super::Outcome;
-use super::Row;
-use super::Want;
-use super::rows::HALVINGS;
-use super::rows::blank_row;
-use super::rows::count_open;
-use super::rows::places_on;
-use super::sound::TICKETS;
-use super::sound::is_sound;
+use rows::Desk;
+use rows::HALVINGS;
+use rows::Row;
+use rows::TICKETS;
+use rows::Want;
+use rows::blank_row;
+use rows::count_open;
+use rows::is_sound;
+use rows::places_on;
 use settle::Judged;
 
 // A desk with every row empty and every number in it 0.
@@ -63,6 +65,19 @@ fn admit(mut d: Desk, r: Row) -> Outcome
     }
 }
 
+// Whether a caller and a kind are ones that a post may name.
+fn known(caller: u64, kind: u64) -> bool
+    ensures { λ b. ⌜ b ≡ (ltb caller 8 && between 2 3 kind) ⌝ }
+{
+    if 7 < caller {
+        return false;
+    }
+    if kind < 2 {
+        return false;
+    }
+    kind <= 3
+}
+
 // Posts the query of kind 2, h = y in kJ/kg at p in MPa, or of kind 3, s = y in kJ/(kg K) at p: a
 // ticket, the caller's own count. Refused with 15, 9, the number that judging the query gives, 13, 10.
 pub fn post(d: Desk, caller: u64, kind: u64, p: f64, y: f64) -> Outcome
@@ -71,13 +86,7 @@ pub fn post(d: Desk, caller: u64, kind: u64, p: f64, y: f64) -> Outcome
     if !is_sound(d) {
         return refused(d, 15);
     }
-    if 7 < caller {
-        return refused(d, 9);
-    }
-    if kind < 2 {
-        return refused(d, 9);
-    }
-    if 3 < kind {
+    if !known(caller, kind) {
         return refused(d, 9);
     }
     let j = settle::judge(kind, p, y);

@@ -9,8 +9,8 @@ use borrow.Author.Tests.{leb-true}
 use lib.Dec.{leb, eqb}
 use lib.ListN.{length}
 use Rattle.sheet.specs.Words.{wordOf}
-use Rattle.desk.proofs.Search.{and-true}
-use Rattle.desk.specs.declared.Desk.{Desk}
+use Rattle.rows.proofs.Search.{and-true}
+use Rattle.rows.specs.declared.Desk.{Desk}
 use Rattle.transcript.specs.declared.Step.{Step}
 use Rattle.transcript.specs.declared.Deed.{Deed}
 use Rattle.transcript.specs.declared.Deed.the-variants.{Asked, Turns, Given, Shown, Bad}

@@ -9,7 +9,7 @@ ghost use mathlib.Core.Path.{_≡_};
 ghost use mathlib.Core.List.{_++_};
 ghost use Rattle.text.specs.Room.{Written};
 ghost use Rattle.text.specs.Texts.{blank, numberColumn, joined};
-ghost use Rattle.desk.specs.Search.{bit};
+ghost use Rattle.rows.specs.Search.{bit};
 ghost use Rattle.transcript.specs.Lines.{floatColumn, nameOf, refusedOf, stateColumns, answerOf, callLine, turnsLine, countColumns, deskLine, rowLine, shownLines};
 
 // Writes a line's number and the words behind it.

@@ -13,17 +13,19 @@ use lib.Ieee.{Float}
 use borrow.Author.Tests.{le-ltb, lt-ltb, eqb-true, eqb-false}
 use Rattle.settle.specs.declared.Bracket.{Bracket}
 use Rattle.settle.specs.declared.Settled.{Settled}
-use Rattle.desk.specs.declared.Row.{Row}
-use Rattle.desk.specs.declared.Desk.{Desk}
+use Rattle.rows.specs.declared.Row.{Row}
+use Rattle.rows.specs.declared.Desk.{Desk}
 use Rattle.desk.specs.declared.Outcome.{Outcome}
 use Rattle.desk.specs.declared.Answer.{Answer}
 use Rattle.desk.specs.declared.Answer.the-variants.{Refused, Ticket, Idle, State, Freed}
 use Rattle.desk.specs.declared.Open.the-variants.{Closed}
-use Rattle.desk.specs.Model.{due, blank, newDesk, row, counted, held, ofCaller, vacant, tally, lowest, answers, refuse, put, Query, queryOf, bracketOf, halve, settle, fresh, halvedRow, next, past, openOf, emptied, collectAt, withdrawAt, collectOf, withdrawOf}
-use Rattle.desk.proofs.Search.{not-some}
-use Rattle.desk.proofs.Tests.{of-empty, of-other, is-of, of-halved, held-is, held-of, is-held, held-empty, held-halved, vacant-is}
-use Rattle.desk.proofs.Changes.{tally-same, tally-more, tally-less, lowest-true, none-lowest, some-lowest}
-use Rattle.desk.proofs.Good.{Good, good-sound}
+use Rattle.rows.specs.Rows.{due, blank, row, counted, held, ofCaller, vacant, tally, lowest, put}
+use Rattle.desk.specs.Model.{newDesk, answers, refuse, Query, queryOf, bracketOf, halve, settle, fresh, halvedRow, next, past, openOf, emptied, collectAt, withdrawAt, collectOf, withdrawOf}
+use Rattle.rows.proofs.Search.{not-some}
+use Rattle.rows.proofs.Tests.{of-empty, of-other, is-of, held-is, held-of, is-held, held-empty, vacant-is}
+use Rattle.desk.proofs.Halved.{of-halved, held-halved}
+use Rattle.rows.proofs.Changes.{tally-same, tally-more, tally-less, lowest-true, none-lowest, some-lowest}
+use Rattle.rows.proofs.Good.{Good, good-sound}
 use Rattle.desk.proofs.Tickets.{Seat, seat-open}
 use Rattle.desk.specs.Runs.{Call, post, turn, peek, collect, withdraw, step, afterFrom, after, Entry, historyFrom, history, keep, asks, ownCalls, ownPart, enough, turns, OpenFor, Patient, times}
 use Rattle.desk.proofs.Runs.Posts.{Job, Ruling, against, given, ruling, rulingAt, Granted, seats, onRuling, post-ruled, ruling-given}

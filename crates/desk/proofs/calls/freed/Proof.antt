@@ -1,16 +1,16 @@
 -- `desk::calls::freed` meets its contract: row i is the blank row. Assumes nothing.
-use borrow.Author.Needs.{needs}
+use Rattle.rows.proofs.Lists.{row-fits}
 use Rattle.desk.proofs.calls.freed.Statement.{statement}
 use Rattle.desk.proofs.calls.freed.Tie as tie
 
 blank-row-requires : tie.Need-blank-row-requires
-blank-row-requires c κs = search needs
+blank-row-requires c κs = tt
 
 mul-b : tie.Need-mul-b
-mul-b c = search needs
+mul-b c = row-fits _ (c .before .pre)
 
 element-set-from-b : tie.Need-element-set-from-b
-element-set-from-b c = search needs
+element-set-from-b c = c .before .pre
 
 returns : tie.Need-returns
 returns c = rw (c .blank-row .ensures)

@@ -1,11 +1,10 @@
 -- `desk::calls::new_desk` meets its contract: 32 times the blank row. Assumes nothing.
-use borrow.Author.Needs.{needs}
 use Rattle.desk.specs.Model.{newDesk}
 use Rattle.desk.proofs.calls.new_desk.Statement.{statement}
 use Rattle.desk.proofs.calls.new_desk.Tie as tie
 
 blank-row-requires : tie.Need-blank-row-requires
-blank-row-requires c κs = search needs
+blank-row-requires c κs = tt
 
 returns : tie.Need-returns
 unfolding newDesk

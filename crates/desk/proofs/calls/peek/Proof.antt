@@ -1,9 +1,9 @@
 -- `desk::calls::peek` meets its contract: the refusal of the ticket, or what its row holds. Assumes nothing.
-use native.Mathlib.Omega.{arith}
 use borrow.Author.Needs.{needs}
 use mathlib.Core.Path.{_≡_, sym, _∙_}
 use Prim.Native.Nat.{_<_}
 use Rattle.desk.specs.declared.Open.the-variants.{At}
+use Rattle.rows.proofs.Lists.{row-fits}
 use Rattle.desk.proofs.Tickets.{open-seat}
 use Rattle.desk.specs.Model.{openOf, peekOf, peekAt}
 use Rattle.desk.proofs.Ways.{peek-shows}
@@ -17,22 +17,22 @@ inside : (c : tie.After-o2) → c .o2 .given .0 .0 < 32
 inside c = open-seat _ _ _ _ (opened c) .place
 
 look-up-requires : tie.Need-look-up-requires
-look-up-requires c κs = search needs
+look-up-requires c κs = tt
 
 enum-known-o : tie.Need-enum-known-o
 enum-known-o c = search needs
 
 refused-requires : tie.Need-refused-requires
-refused-requires c κs = search needs
+refused-requires c κs = tt
 
 enum-known-o-2 : tie.Need-enum-known-o-2
 enum-known-o-2 c = search needs
 
 mul-r : tie.Need-mul-r
-mul-r c = let h = inside (c .before) in omega arith
+mul-r c = row-fits _ (inside (c .before))
 
 element-copy-out-r : tie.Need-element-copy-out-r
-element-copy-out-r c = let h = inside (c .before) in omega arith
+element-copy-out-r c = inside (c .before)
 
 returns : tie.Need-returns
 unfolding peekOf peekAt

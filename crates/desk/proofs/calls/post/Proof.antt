@@ -1,71 +1,74 @@
 -- `desk::calls::post` meets its contract: a refusal for each test in its order, the refusal that judging the query gives, or what `admit` makes of the job. Assumes nothing.
 use borrow.Author.Needs.{needs}
-use mathlib.Core.Path.{sym, _∙_}
-use Prim.Native.Nat.{suc-le-suc}
-use borrow.Author.Tests.{not-true, not-false, le-ltb, lt-ltb, le-leb, lt-leb}
+use mathlib.Core.Path.{_≡_, sym, _∙_}
+use mathlib.Core.Bool.{true, _&&_}
+use Prim.Native.Nat.{_<_}
+use borrow.Author.Tests.{not-true, not-false, ltb-true}
+use lib.Dec.{ltb}
+use Rattle.rows.specs.Rows.{between, sound}
+use Rattle.rows.proofs.Search.{and-true}
+use Rattle.rows.proofs.Lists.{count-fits}
 use Rattle.desk.specs.Model.{postOf, judgedPost}
 use Rattle.desk.proofs.calls.post.Statement.{statement}
 use Rattle.desk.proofs.calls.post.Tie as tie
 
+sound-here : (c : tie.Else1) → sound (c .before .before .args .t1) ≡ true
+sound-here c = sym (c .before .is-sound .ensures) ∙ not-false _ (c .if1 .left)
+
+known-here : (c : tie.Else2) → (ltb (c .before .before .before .before .args .caller) 8 && between 2 3 (c .before .before .before .before .args .kind)) ≡ true
+known-here c = sym (c .before .known .ensures) ∙ not-false _ (c .if2 .left)
+
+caller-known : (c : tie.Else2) → c .before .before .before .before .args .caller < 8
+caller-known c = ltb-true _ _ (and-true _ _ (known-here c) .0)
+
 is-sound-requires : tie.Need-is-sound-requires
-is-sound-requires c κs = search needs
+is-sound-requires c κs = tt
 
 refused-requires : tie.Need-refused-requires
-refused-requires c κs = search needs
+refused-requires c κs = tt
 
 returns : tie.Need-returns
 unfolding postOf
 returns c = rw (sym (c .before .before .is-sound .ensures) ∙ not-true _ (c .before .if1 .taken)) (c .refused .ensures)
 
+known-requires : tie.Need-known-requires
+known-requires c κs = tt
+
 refused-requires-2 : tie.Need-refused-requires-2
-refused-requires-2 c κs = search needs
+refused-requires-2 c κs = tt
 
 returns-2 : tie.Need-returns-2
 unfolding postOf
-returns-2 c = rw (sym (c .before .before .before .is-sound .ensures) ∙ not-false _ (c .before .before .if1 .left), le-ltb _ _ (c .before .if2 .taken)) (c .refused2 .ensures)
-
-refused-requires-3 : tie.Need-refused-requires-3
-refused-requires-3 c κs = search needs
-
-returns-3 : tie.Need-returns-3
-unfolding postOf
-returns-3 c = rw (sym (c .before .before .before .before .is-sound .ensures) ∙ not-false _ (c .before .before .before .if1 .left), lt-ltb _ _ (suc-le-suc (c .before .before .if2 .left)), lt-leb _ _ (c .before .if3 .taken)) (c .refused3 .ensures)
-
-refused-requires-4 : tie.Need-refused-requires-4
-refused-requires-4 c κs = search needs
-
-returns-4 : tie.Need-returns-4
-unfolding postOf
-returns-4 c = rw (sym (c .before .before .before .before .before .is-sound .ensures) ∙ not-false _ (c .before .before .before .before .if1 .left), lt-ltb _ _ (suc-le-suc (c .before .before .before .if2 .left)), le-leb _ _ (c .before .before .if3 .left), lt-leb _ _ (c .before .if4 .taken)) (c .refused4 .ensures)
+returns-2 c = rw (sound-here (c .before .before .before), sym (c .before .before .known .ensures) ∙ not-true _ (c .before .if2 .taken)) (c .refused2 .ensures)
 
 judge-requires : tie.Need-judge-requires
-judge-requires c κs = search needs
+judge-requires c κs = tt
 
 enum-known-j : tie.Need-enum-known-j
 enum-known-j c = search needs
 
-refused-requires-5 : tie.Need-refused-requires-5
-refused-requires-5 c κs = search needs
+refused-requires-3 : tie.Need-refused-requires-3
+refused-requires-3 c κs = tt
 
 enum-known-j-2 : tie.Need-enum-known-j-2
 enum-known-j-2 c = search needs
 
 mul-ticket : tie.Need-mul-ticket
-mul-ticket c = search needs
+mul-ticket c = count-fits _ (caller-known (c .before .before .before .before))
 
 element-copy-out-ticket : tie.Need-element-copy-out-ticket
-element-copy-out-ticket c = search needs
+element-copy-out-ticket c = caller-known (c .before .before .before .before)
 
 admit-requires : tie.Need-admit-requires
-admit-requires c κs = (sym (c .before .before .before .before .before .before .before .before .before .is-sound .ensures) ∙ not-false _ (c .before .before .before .before .before .before .before .before .if1 .left), suc-le-suc (c .before .before .before .before .before .before .before .if2 .left))
+admit-requires c κs = (sound-here (c .before .before .before .before .before .before .before), caller-known (c .before .before .before .before .before))
 
-returns-5 : tie.Need-returns-5
+returns-3 : tie.Need-returns-3
 unfolding postOf judgedPost
-returns-5 c = rw (sym (c .before .before .before .before .before .before .before .before .before .is-sound .ensures) ∙ not-false _ (c .before .before .before .before .before .before .before .before .if1 .left), lt-ltb _ _ (suc-le-suc (c .before .before .before .before .before .before .before .if2 .left)), le-leb _ _ (c .before .before .before .before .before .before .if3 .left), le-leb _ _ (c .before .before .before .before .before .if4 .left), ← c .before .before .before .before .judge .ensures, c .before .before .j .given .1) (c .refused5 .ensures)
+returns-3 c = rw (sound-here (c .before .before .before .before .before .before .before), known-here (c .before .before .before .before .before), ← c .before .before .before .before .judge .ensures, c .before .before .j .given .1) (c .refused3 .ensures)
 
-returns-6 : tie.Need-returns-6
+returns-4 : tie.Need-returns-4
 unfolding postOf judgedPost
-returns-6 c = rw (sym (c .before .before .before .before .before .before .before .before .before .before .is-sound .ensures) ∙ not-false _ (c .before .before .before .before .before .before .before .before .before .if1 .left), lt-ltb _ _ (suc-le-suc (c .before .before .before .before .before .before .before .before .if2 .left)), le-leb _ _ (c .before .before .before .before .before .before .before .if3 .left), le-leb _ _ (c .before .before .before .before .before .before .if4 .left), ← c .before .before .before .before .before .judge .ensures, c .before .before .before .j2 .given .1) (c .admit .ensures)
+returns-4 c = rw (sound-here (c .before .before .before .before .before .before .before .before), known-here (c .before .before .before .before .before .before), ← c .before .before .before .before .before .judge .ensures, c .before .before .before .j2 .given .1) (c .admit .ensures)
 
 pub post-spec : {M : Type 1} → statement M
 post-spec =
@@ -74,18 +77,15 @@ post-spec =
     is-sound-requires
     refused-requires
     returns
+    known-requires
     refused-requires-2
     returns-2
-    refused-requires-3
-    returns-3
-    refused-requires-4
-    returns-4
     judge-requires
     enum-known-j
-    refused-requires-5
+    refused-requires-3
     enum-known-j-2
     mul-ticket
     element-copy-out-ticket
     admit-requires
-    returns-5
-    returns-6)
+    returns-3
+    returns-4)

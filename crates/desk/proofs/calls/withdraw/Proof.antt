@@ -15,13 +15,13 @@ inside : (c : tie.After-o2) → c .o2 .given .0 .0 < 32
 inside c = open-seat _ _ _ _ (opened c) .place
 
 look-up-requires : tie.Need-look-up-requires
-look-up-requires c κs = search needs
+look-up-requires c κs = tt
 
 enum-known-o : tie.Need-enum-known-o
 enum-known-o c = search needs
 
 refused-requires : tie.Need-refused-requires
-refused-requires c κs = search needs
+refused-requires c κs = tt
 
 enum-known-o-2 : tie.Need-enum-known-o-2
 enum-known-o-2 c = search needs

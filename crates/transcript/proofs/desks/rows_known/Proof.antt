@@ -7,8 +7,8 @@ use borrow.Author.Needs.{needs}
 use borrow.Author.Tests.{le-leb, lt-leb}
 use lib.Dec.{leb}
 use Rattle.sheet.specs.Words.{wordOf}
-use Rattle.desk.specs.Search.{upto}
-use Rattle.desk.proofs.Search.{upto-fails, upto-more}
+use Rattle.rows.specs.Search.{upto}
+use Rattle.rows.proofs.Search.{upto-fails, upto-more}
 use Rattle.transcript.specs.Records.{rowStart, rowsKnown}
 use Rattle.transcript.proofs.desks.rows_known.Statement.{statement}
 use Rattle.transcript.proofs.desks.rows_known.Tie as tie

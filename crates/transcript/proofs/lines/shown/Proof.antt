@@ -6,8 +6,8 @@ use Rattle.text.specs.Room.{Written}
 use Rattle.text.specs.Texts.{joined}
 use Rattle.text.proofs.Pieces.{then, said, kept}
 use Rattle.text.proofs.Joined.{begun, turned, ended}
-use Rattle.desk.specs.Model.{row}
-use Rattle.desk.proofs.Lists.{row-is}
+use Rattle.rows.specs.Rows.{row}
+use Rattle.rows.proofs.Lists.{row-is}
 use Rattle.transcript.specs.Lines.{rowLine, shownLines}
 use borrow.Author.Needs.{needs}
 use Rattle.transcript.proofs.lines.shown.Statement.{statement}

@@ -1,0 +1,15 @@
+-- A halving leaves a row its caller's and its ticket's. Assumes nothing.
+use mathlib.Core.Path.{_≡_, refl}
+use Prim.Native.Nat.{ℕ}
+use Rattle.rows.specs.declared.Row.{Row}
+use Rattle.rows.specs.Rows.{held, ofCaller}
+use Rattle.desk.specs.Model.{halvedRow}
+
+module _ (c : ℕ) (r : Row) where
+  pub of-halved : ofCaller c (halvedRow r) ≡ ofCaller c r
+  unfolding ofCaller halvedRow
+  of-halved = refl
+
+  pub held-halved : (t : ℕ) → held c t (halvedRow r) ≡ held c t r
+  unfolding held halvedRow
+  held-halved t = refl
