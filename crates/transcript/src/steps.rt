@@ -1,19 +1,19 @@
 // What one record of a run does (specs/Steps.antt).
-use crate::Call;
-use crate::Deed;
 use crate::Step;
-use crate::desks::desk_in;
 use crate::lines::opened;
-use crate::lines::shown;
-use crate::lines::told;
 use crate::lines::turned;
-use crate::records::read;
 use crate::turns::turns;
+use call_lines::told;
 use desk::Desk;
 use desk::Outcome;
+use desk_lines::shown;
+use records::Call;
+use records::Deed;
+use records::desk_in;
+use records::read;
 ghost use mathlib.Core.Path.{_≡_};
 ghost use Rattle.text.specs.Room.{Written};
-ghost use Rattle.transcript.specs.Records.{deedOf};
+ghost use Rattle.records.specs.Records.{deedOf};
 ghost use Rattle.transcript.specs.Steps.{outcomeOf, Done, textOf};
 
 // What the desk answers to a call, and the desk that it leaves.

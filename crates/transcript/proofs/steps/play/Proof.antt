@@ -5,11 +5,12 @@ use Rattle.text.proofs.Pieces.{said, behind}
 use Rattle.desk.specs.declared.Outcome.{Outcome}
 use Rattle.transcript.specs.declared.Step.{Step}
 use Rattle.transcript.specs.declared.Turned.{Turned}
-use Rattle.transcript.specs.declared.Deed.the-variants.{Asked, Turns, Given, Shown, Bad}
-use Rattle.transcript.specs.Records.{deedOf}
-use Rattle.transcript.specs.Lines.{callLine, givenLine, badLine}
+use Rattle.records.specs.declared.Deed.the-variants.{Asked, Turns, Given, Shown, Bad}
+use Rattle.records.specs.Records.{deedOf}
+use Rattle.call_lines.specs.Lines.{callLine}
+use Rattle.transcript.specs.Lines.{givenLine, badLine}
 use Rattle.transcript.specs.Steps.{deskAfter, takenBy, turnsText, textOf}
-use Rattle.transcript.proofs.DeedLaws.{turnsIn, turns-few}
+use Rattle.records.proofs.Ways.{turnsIn, turns-few}
 use borrow.Author.Needs.{needs}
 use Rattle.transcript.proofs.steps.play.Statement.{statement}
 use Rattle.transcript.proofs.steps.play.Tie as tie
