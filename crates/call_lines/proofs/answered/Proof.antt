@@ -5,7 +5,7 @@ use mathlib.Core.List.{List, [], _∷_}
 use types.Run.{OneOf, miss}
 use denote.Enum.Declared.{tagOf}
 use Rattle.text.specs.Texts.{newline}
-use Rattle.text.proofs.Pieces.{then, said}
+use Rattle.text.proofs.Pieces.{said}
 use Rattle.desk.proofs.Answer as AnswerT
 use Rattle.desk.specs.declared.Answer.{Answer}
 use Rattle.desk.specs.declared.Answer.the-variants.{Refused, Ticket, Halved, Idle, Shown, State, Freed}
@@ -38,50 +38,26 @@ refused-requires c κs = search needs
 enum-known-answer-2 : tie.Need-enum-known-answer-2
 enum-known-answer-2 c = search needs
 
+ticket-requires : tie.Need-ticket-requires
+ticket-requires c κs = search needs
+
+enum-known-answer-3 : tie.Need-enum-known-answer-3
+enum-known-answer-3 c = search needs
+
+bracket-requires : tie.Need-bracket-requires
+bracket-requires c κs = search needs
+
+enum-known-answer-4 : tie.Need-enum-known-answer-4
+enum-known-answer-4 c = search needs
+
+collected-requires : tie.Need-collected-requires
+collected-requires c κs = search needs
+
 slice-aggregate-bytes : tie.Need-slice-aggregate-bytes
 slice-aggregate-bytes c = search needs
 
 bytes-requires : tie.Need-bytes-requires
 bytes-requires c κs = search needs
-
-decimal-requires : tie.Need-decimal-requires
-decimal-requires c κs = search needs
-
-enum-known-answer-3 : tie.Need-enum-known-answer-3
-enum-known-answer-3 c = search needs
-
-slice-aggregate-bytes-2 : tie.Need-slice-aggregate-bytes-2
-slice-aggregate-bytes-2 c = search needs
-
-bytes-requires-2 : tie.Need-bytes-requires-2
-bytes-requires-2 c κs = search needs
-
-decimal-requires-2 : tie.Need-decimal-requires-2
-decimal-requires-2 c κs = search needs
-
-column-requires : tie.Need-column-requires
-column-requires c κs = search needs
-
-column-requires-2 : tie.Need-column-requires-2
-column-requires-2 c κs = search needs
-
-enum-known-answer-4 : tie.Need-enum-known-answer-4
-enum-known-answer-4 c = search needs
-
-slice-aggregate-bytes-3 : tie.Need-slice-aggregate-bytes-3
-slice-aggregate-bytes-3 c = search needs
-
-bytes-requires-3 : tie.Need-bytes-requires-3
-bytes-requires-3 c κs = search needs
-
-state-requires : tie.Need-state-requires
-state-requires c κs = search needs
-
-slice-aggregate-bytes-4 : tie.Need-slice-aggregate-bytes-4
-slice-aggregate-bytes-4 c = search needs
-
-bytes-requires-4 : tie.Need-bytes-requires-4
-bytes-requires-4 c κs = search needs
 
 same-length : tie.Need-same-length
 same-length c = search needs
@@ -89,8 +65,8 @@ same-length c = search needs
 returns : tie.Need-returns
 unfolding answerOf
 returns c =
-    let number = c .before .before in
-    said (ap (answerOf _) (sym (number .before .before .before .answer .given .1))) (number .refused .ensures)
+    let part = c .before .before in
+    said (ap (answerOf _) (sym (part .before .before .before .answer .given .1))) (part .refused .ensures)
 
 same-length-2 : tie.Need-same-length-2
 same-length-2 c = search needs
@@ -98,9 +74,8 @@ same-length-2 c = search needs
 returns-2 : tie.Need-returns-2
 unfolding answerOf
 returns-2 c =
-    let ticket = c .before .before in
-    let none = ticket .before .before .before .before in
-    said (ap (answerOf _) (sym (none .before .before .before .before .answer2 .given .1))) (then (none .bytes .ensures) (ticket .decimal .ensures))
+    let part = c .before .before in
+    said (ap (answerOf _) (sym (part .before .before .before .answer2 .given .1))) (part .ticket .ensures)
 
 same-length-3 : tie.Need-same-length-3
 same-length-3 c = search needs
@@ -108,12 +83,8 @@ same-length-3 c = search needs
 returns-3 : tie.Need-returns-3
 unfolding answerOf
 returns-3 c =
-    let hi = c .before .before in
-    let lo = hi .before .before .before .before in
-    let halvings = lo .before .before .before .before in
-    let none = halvings .before .before .before .before in
-    said (ap (answerOf _) (sym (none .before .before .before .before .answer3 .given .1)))
-    (then (then (then (none .bytes2 .ensures) (halvings .decimal2 .ensures)) (lo .column .ensures)) (hi .column2 .ensures))
+    let part = c .before .before in
+    said (ap (answerOf _) (sym (part .before .before .before .answer3 .given .1))) (part .bracket .ensures)
 
 same-length-4 : tie.Need-same-length-4
 same-length-4 c = search needs
@@ -121,9 +92,8 @@ same-length-4 c = search needs
 returns-4 : tie.Need-returns-4
 unfolding answerOf
 returns-4 c =
-    let state = c .before .before in
-    let none = state .before .before .before .before in
-    said (ap (answerOf _) (sym (none .before .before .before .before .before .answer4 .given .1))) (then (none .bytes3 .ensures) (state .state .ensures))
+    let part = c .before .before in
+    said (ap (answerOf _) (sym (part .before .before .before .before .answer4 .given .1))) (part .collected .ensures)
 
 same-length-5 : tie.Need-same-length-5
 same-length-5 c = search needs
@@ -131,7 +101,7 @@ same-length-5 c = search needs
 returns-5 : tie.Need-returns-5
 returns-5 c =
     let none = c .before .before in
-    said (no-more _ _ (none .before .before .before .match .keys5)) (none .bytes4 .ensures)
+    said (no-more _ _ (none .before .before .before .match .keys5)) (none .bytes .ensures)
 
 pub answered-spec : {M : Type 1} → statement M
 answered-spec =
@@ -140,21 +110,13 @@ answered-spec =
     enum-known-answer
     refused-requires
     enum-known-answer-2
+    ticket-requires
+    enum-known-answer-3
+    bracket-requires
+    enum-known-answer-4
+    collected-requires
     slice-aggregate-bytes
     bytes-requires
-    decimal-requires
-    enum-known-answer-3
-    slice-aggregate-bytes-2
-    bytes-requires-2
-    decimal-requires-2
-    column-requires
-    column-requires-2
-    enum-known-answer-4
-    slice-aggregate-bytes-3
-    bytes-requires-3
-    state-requires
-    slice-aggregate-bytes-4
-    bytes-requires-4
     same-length
     returns
     same-length-2

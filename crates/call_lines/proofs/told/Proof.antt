@@ -1,15 +1,12 @@
--- `call_lines::told` meets its contract: number, name and answer, one behind the other. Assumes nothing.
+-- `call_lines::told` meets its contract: number and name, and what was answered. Assumes nothing.
 use Rattle.text.proofs.Pieces.{then}
 use Rattle.call_lines.specs.Lines.{callLine}
 use borrow.Author.Needs.{needs}
 use Rattle.call_lines.proofs.told.Statement.{statement}
 use Rattle.call_lines.proofs.told.Tie as tie
 
-decimal-requires : tie.Need-decimal-requires
-decimal-requires c κs = search needs
-
-name-requires : tie.Need-name-requires
-name-requires c κs = search needs
+named-requires : tie.Need-named-requires
+named-requires c κs = search needs
 
 answered-requires : tie.Need-answered-requires
 answered-requires c κs = search needs
@@ -21,10 +18,7 @@ returns : tie.Need-returns
 unfolding callLine
 returns c =
     let answer = c .before .before in
-    let name = answer .before .before .before .before in
-    let number = name .before .before .before .before in
-    then (then (number .decimal .ensures) (name .name .ensures)) (answer .answered .ensures)
+    then (answer .before .before .before .before .named .ensures) (answer .answered .ensures)
 
 pub told-spec : {M : Type 1} → statement M
-told-spec =
-    tie.close (tie.spec decimal-requires name-requires answered-requires same-length returns)
+told-spec = tie.close (tie.spec named-requires answered-requires same-length returns)
