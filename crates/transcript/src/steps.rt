@@ -40,26 +40,46 @@ pub fn play(rest: &[u8], number: u64, d: Desk, out: &mut [u8]) -> Step
             let answer = o.answer;
             let end = told(number, call, answer, out);
             let after = o.desk;
-            Step { desk: after, taken: 40, end }
+            Step {
+                desk: after,
+                taken: 40,
+                end,
+            }
         }
         Deed::Turns(n) => {
             let t = turns(d, n);
             let end = turned(number, t.refusal, t.halved, t.idle, out);
             let after = t.desk;
-            Step { desk: after, taken: 40, end }
+            Step {
+                desk: after,
+                taken: 40,
+                end,
+            }
         }
         Deed::Given => {
             let after = desk_in(rest);
             let end = opened(number, b"desk\n", out);
-            Step { desk: after, taken: 2672, end }
+            Step {
+                desk: after,
+                taken: 2672,
+                end,
+            }
         }
         Deed::Shown => {
             let end = shown(number, d, out);
-            Step { desk: d, taken: 40, end }
+            Step {
+                desk: d,
+                taken: 40,
+                end,
+            }
         }
         Deed::Bad => {
             let end = opened(number, b"bad record\n", out);
-            Step { desk: d, taken: rest.len(), end }
+            Step {
+                desk: d,
+                taken: rest.len(),
+                end,
+            }
         }
     }
 }
