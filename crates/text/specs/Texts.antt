@@ -48,6 +48,10 @@ newline = 10
 abbrev pub numberColumn : ℕ → ℕ → List ℕ
 numberColumn n end = decimalOf n ++ end ∷ []
 
+-- an f64's column
+abbrev pub floatColumn : Float → ℕ → List ℕ
+floatColumn x end = columnOf (Value x) ++ end ∷ []
+
 -- n texts one behind the other, numbered from 0
 unfoldable pub joined : (ℕ → List ℕ) → ℕ → List ℕ
 joined text zero = []

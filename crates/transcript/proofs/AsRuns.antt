@@ -11,8 +11,8 @@ use Rattle.rows.specs.declared.Desk.{Desk}
 use Rattle.desk.specs.declared.Answer.{Answer}
 use Rattle.desk.specs.declared.Answer.the-variants.{Refused, Ticket, Halved, Idle, Shown, State, Freed}
 use Rattle.desk.proofs.Runs.Own.{after-append}
-use Rattle.transcript.specs.declared.Deed.{Deed}
-use Rattle.transcript.specs.declared.Deed.the-variants as Deed
+use Rattle.records.specs.declared.Deed.{Deed}
+use Rattle.records.specs.declared.Deed.the-variants as Deed
 use Rattle.transcript.specs.declared.Turned.{Turned}
 use Rattle.transcript.specs.Steps.{callOf, afterTurn, turnedOnce, turnsFrom, deskAfter, standing, deedAt}
 

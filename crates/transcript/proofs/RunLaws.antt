@@ -8,7 +8,7 @@ use lib.Seq.{take-length, drop-drop}
 use Rattle.desk.specs.Model.{newDesk}
 use Rattle.rows.specs.declared.Desk.{Desk}
 use Rattle.transcript.specs.declared.Step.{Step}
-use Rattle.transcript.specs.Records.{deedOf}
+use Rattle.records.specs.Records.{deedOf}
 use Rattle.transcript.specs.Steps.{deskAfter, takenBy, Done, textOf, standing, deedAt, recordText}
 
 -- The record with this number comes next, finds this desk, and starts at this place: all three as the definition of a run has them.

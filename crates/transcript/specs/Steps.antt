@@ -11,14 +11,16 @@ use Rattle.rows.specs.declared.Desk.{Desk}
 use Rattle.desk.specs.declared.Answer.{Answer}
 use Rattle.desk.specs.declared.Answer.the-variants as Answer
 use Rattle.desk.specs.declared.Outcome.{Outcome}
-use Rattle.transcript.specs.declared.Call.{Call}
-use Rattle.transcript.specs.declared.Call.the-variants.{Post, Peek, Collect, Withdraw}
-use Rattle.transcript.specs.declared.Deed.{Deed}
-use Rattle.transcript.specs.declared.Deed.the-variants.{Asked, Turns, Given, Shown, Bad}
+use Rattle.records.specs.declared.Call.{Call}
+use Rattle.records.specs.declared.Call.the-variants.{Post, Peek, Collect, Withdraw}
+use Rattle.records.specs.declared.Deed.{Deed}
+use Rattle.records.specs.declared.Deed.the-variants.{Asked, Turns, Given, Shown, Bad}
+use Rattle.records.specs.Records.{recordBytes, deskBytes, deskIn, deedOf}
+use Rattle.call_lines.specs.Lines.{callLine}
+use Rattle.desk_lines.specs.Lines.{shownLines}
 use Rattle.transcript.specs.declared.Turned.{Turned}
 use Rattle.transcript.specs.declared.Step.{Step}
-use Rattle.transcript.specs.Records.{recordBytes, deskBytes, deskIn, deedOf}
-use Rattle.transcript.specs.Lines.{callLine, turnsLine, givenLine, badLine, shownLines}
+use Rattle.transcript.specs.Lines.{turnsLine, givenLine, badLine}
 
 -- ---- a call
 

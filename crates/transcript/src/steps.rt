@@ -1,19 +1,19 @@
 // What one record of a run does (specs/Steps.antt).
-use crate::Call;
-use crate::Deed;
 use crate::Step;
-use crate::desks::desk_in;
 use crate::lines::opened;
-use crate::lines::shown;
-use crate::lines::told;
 use crate::lines::turned;
-use crate::records::read;
 use crate::turns::turns;
+use call_lines::told;
 use desk::Desk;
 use desk::Outcome;
+use desk_lines::shown;
+use records::Call;
+use records::Deed;
+use records::desk_in;
+use records::read;
 ghost use mathlib.Core.Path.{_≡_};
 ghost use Rattle.text.specs.Room.{Written};
-ghost use Rattle.transcript.specs.Records.{deedOf};
+ghost use Rattle.records.specs.Records.{deedOf};
 ghost use Rattle.transcript.specs.Steps.{outcomeOf, Done, textOf};
 
 // What the desk answers to a call, and the desk that it leaves.
@@ -28,13 +28,6 @@ fn asked(d: Desk, call: Call) -> Outcome
     }
 }
 
-// The result of a record.
-fn stepped(desk: Desk, taken: usize, end: usize) -> Step
-    ensures { λ r. ⌜ r ≡ record { desk = desk; taken = taken; end = end } ⌝ }
-{
-    Step { desk, taken, end }
-}
-
 // Does what the record at the front of the bytes that are left asks for, on the desk d, and writes its
 // text, with its number, into the room. A bad record takes all that is left: it ends the run.
 pub fn play(rest: &[u8], number: u64, d: Desk, out: &mut [u8]) -> Step
@@ -47,16 +40,46 @@ pub fn play(rest: &[u8], number: u64, d: Desk, out: &mut [u8]) -> Step
             let answer = o.answer;
             let end = told(number, call, answer, out);
             let after = o.desk;
-            stepped(after, 40, end)
+            Step {
+                desk: after,
+                taken: 40,
+                end,
+            }
         }
         Deed::Turns(n) => {
             let t = turns(d, n);
             let end = turned(number, t.refusal, t.halved, t.idle, out);
             let after = t.desk;
-            stepped(after, 40, end)
+            Step {
+                desk: after,
+                taken: 40,
+                end,
+            }
         }
-        Deed::Given => stepped(desk_in(rest), 2672, opened(number, b"desk\n", out)),
-        Deed::Shown => stepped(d, 40, shown(number, d, out)),
-        Deed::Bad => stepped(d, rest.len(), opened(number, b"bad record\n", out)),
+        Deed::Given => {
+            let after = desk_in(rest);
+            let end = opened(number, b"desk\n", out);
+            Step {
+                desk: after,
+                taken: 2672,
+                end,
+            }
+        }
+        Deed::Shown => {
+            let end = shown(number, d, out);
+            Step {
+                desk: d,
+                taken: 40,
+                end,
+            }
+        }
+        Deed::Bad => {
+            let end = opened(number, b"bad record\n", out);
+            Step {
+                desk: d,
+                taken: rest.len(),
+                end,
+            }
+        }
     }
 }

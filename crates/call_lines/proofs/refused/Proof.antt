@@ -1,0 +1,105 @@
+-- `call_lines::refused` meets its contract, case by case. Assumes nothing.
+use mathlib.Core.Path.{sym, ap}
+use Rattle.text.proofs.Pieces.{said}
+use Rattle.records.specs.declared.Call.{Call}
+use Rattle.call_lines.specs.Lines.{refusedOf}
+use borrow.Author.Needs.{needs}
+use Rattle.call_lines.proofs.refused.Statement.{statement}
+use Rattle.call_lines.proofs.refused.Tie as tie
+
+enum-told : tie.Need-enum-told
+enum-told c = search needs
+
+slice-aggregate-numbered : tie.Need-slice-aggregate-numbered
+slice-aggregate-numbered c = search needs
+
+numbered-requires : tie.Need-numbered-requires
+numbered-requires c κs = search needs
+
+enum-told-2 : tie.Need-enum-told-2
+enum-told-2 c = search needs
+
+slice-aggregate-numbered-2 : tie.Need-slice-aggregate-numbered-2
+slice-aggregate-numbered-2 c = search needs
+
+numbered-requires-2 : tie.Need-numbered-requires-2
+numbered-requires-2 c κs = search needs
+
+enum-told-3 : tie.Need-enum-told-3
+enum-told-3 c = search needs
+
+slice-aggregate-numbered-3 : tie.Need-slice-aggregate-numbered-3
+slice-aggregate-numbered-3 c = search needs
+
+numbered-requires-3 : tie.Need-numbered-requires-3
+numbered-requires-3 c κs = search needs
+
+enum-told-4 : tie.Need-enum-told-4
+enum-told-4 c = search needs
+
+decimal-requires : tie.Need-decimal-requires
+decimal-requires c κs = search needs
+
+same-length : tie.Need-same-length
+same-length c = search needs
+
+returns : tie.Need-returns
+unfolding refusedOf
+returns c =
+    let dashes = c .before .before in
+    let told = dashes .before .before .before in
+    said (ap (λ (call : Call). refusedOf call (told .before .before .before .args .n)) (sym (told .enum-told .given .1))) (dashes .numbered .ensures)
+
+same-length-2 : tie.Need-same-length-2
+same-length-2 c = search needs
+
+returns-2 : tie.Need-returns-2
+unfolding refusedOf
+returns-2 c =
+    let dashes = c .before .before in
+    let told = dashes .before .before .before in
+    said (ap (λ (call : Call). refusedOf call (told .before .before .before .args .n)) (sym (told .enum-told2 .given .1))) (dashes .numbered2 .ensures)
+
+same-length-3 : tie.Need-same-length-3
+same-length-3 c = search needs
+
+returns-3 : tie.Need-returns-3
+unfolding refusedOf
+returns-3 c =
+    let dashes = c .before .before in
+    let told = dashes .before .before .before in
+    said (ap (λ (call : Call). refusedOf call (told .before .before .before .args .n)) (sym (told .enum-told3 .given .1))) (dashes .numbered3 .ensures)
+
+same-length-4 : tie.Need-same-length-4
+same-length-4 c = search needs
+
+returns-4 : tie.Need-returns-4
+unfolding refusedOf
+returns-4 c =
+    let number = c .before .before in
+    let told = number .before .before in
+    said (ap (λ (call : Call). refusedOf call (told .before .before .before .args .n)) (sym (told .enum-told4 .given .1))) (number .decimal .ensures)
+
+pub refused-spec : {M : Type 1} → statement M
+refused-spec =
+    tie.close
+    (tie.spec
+    enum-told
+    slice-aggregate-numbered
+    numbered-requires
+    enum-told-2
+    slice-aggregate-numbered-2
+    numbered-requires-2
+    enum-told-3
+    slice-aggregate-numbered-3
+    numbered-requires-3
+    enum-told-4
+    decimal-requires
+    same-length
+    returns
+    same-length-2
+    returns-2
+    same-length-3
+    returns-3
+    same-length-4
+    returns-4)

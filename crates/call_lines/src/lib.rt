@@ -1,0 +1,145 @@
+// The line of a call: its number and name, the refusal or 0, and what was handed out (specs/Lines.antt).
+use desk::Answer;
+use records::Call;
+use states::Single;
+use text::Cell;
+ghost use mathlib.Core.Path.{_≡_};
+ghost use mathlib.Core.List.{[], _∷_, _++_};
+ghost use Rattle.text.specs.Room.{Written};
+ghost use Rattle.text.specs.Texts.{blank, newline, numberColumn, floatColumn};
+ghost use Rattle.rows.specs.Search.{bit};
+ghost use Rattle.call_lines.specs.Lines.{nameOf, refusedOf, stateColumns, answerOf, callLine};
+
+// A mark as a number.
+fn bit(mark: bool) -> u64
+    ensures { λ r. ⌜ r ≡ bit mark ⌝ }
+{
+    if mark { 1 } else { 0 }
+}
+
+// Writes a number and the words behind it.
+fn numbered(n: u64, words: &[u8], out: &mut [u8], at: usize) -> usize
+    ensures { λ r. ⌜ Written (now (out .entry)) at (numberColumn n blank ++ now (words .entry)) (now (out .exit)) r ⌝ }
+{
+    let at = text::decimal(n, b' ', out, at);
+    text::bytes(words, out, at)
+}
+
+// Writes a line's number and the name of its call.
+fn named(number: u64, call: Call, out: &mut [u8]) -> usize
+    ensures { λ r. ⌜ Written (now (out .entry)) 0 (numberColumn number blank ++ nameOf call) (now (out .exit)) r ⌝ }
+{
+    match call {
+        Call::Post {
+            caller: _,
+            kind: _,
+            p: _,
+            y: _,
+        } => numbered(number, b"post ", out, 0),
+        Call::Peek {
+            caller: _,
+            ticket: _,
+        } => numbered(number, b"peek ", out, 0),
+        Call::Collect {
+            caller: _,
+            ticket: _,
+        } => numbered(number, b"collect ", out, 0),
+        Call::Withdraw {
+            caller: _,
+            ticket: _,
+        } => numbered(number, b"withdraw ", out, 0),
+    }
+}
+
+// Writes a refusal, and `-` for each thing that the call would have handed out.
+fn refused(call: Call, n: u64, out: &mut [u8], at: usize) -> usize
+    ensures { λ r. ⌜ Written (now (out .entry)) at (refusedOf call n) (now (out .exit)) r ⌝ }
+{
+    match call {
+        Call::Post {
+            caller: _,
+            kind: _,
+            p: _,
+            y: _,
+        } => numbered(n, b"-\n", out, at),
+        Call::Peek {
+            caller: _,
+            ticket: _,
+        } => numbered(n, b"- - -\n", out, at),
+        Call::Collect {
+            caller: _,
+            ticket: _,
+        } => numbered(n, b"- - - - - - - - - -\n", out, at),
+        Call::Withdraw {
+            caller: _,
+            ticket: _,
+        } => text::decimal(n, b'\n', out, at),
+    }
+}
+
+// Writes that nothing is refused, and a ticket.
+fn ticket(t: u64, out: &mut [u8], at: usize) -> usize
+    ensures { λ r. ⌜ Written (now (out .entry)) at ((48 ∷ blank ∷ []) ++ numberColumn t newline) (now (out .exit)) r ⌝ }
+{
+    let at = text::bytes(b"0 ", out, at);
+    text::decimal(t, b'\n', out, at)
+}
+
+// Writes that nothing is refused, the halvings done, and the bracket that they left.
+fn bracket(halvings: u64, lo: f64, hi: f64, out: &mut [u8], at: usize) -> usize
+    ensures { λ r. ⌜ Written (now (out .entry)) at ((48 ∷ blank ∷ []) ++ numberColumn halvings blank ++ floatColumn lo blank ++ floatColumn hi newline) (now (out .exit)) r ⌝ }
+{
+    let at = text::bytes(b"0 ", out, at);
+    let at = text::decimal(halvings, b' ', out, at);
+    let at = text::column(Cell::Value(lo), b' ', out, at);
+    text::column(Cell::Value(hi), b'\n', out, at)
+}
+
+// Writes region, mark and values of a state.
+fn state(s: Single, out: &mut [u8], at: usize) -> usize
+    ensures { λ r. ⌜ Written (now (out .entry)) at (stateColumns s) (now (out .exit)) r ⌝ }
+{
+    let q = s.state;
+    let at = text::decimal(s.region, b' ', out, at);
+    let at = text::decimal(bit(s.verified), b' ', out, at);
+    let at = text::column(Cell::Value(s.p), b' ', out, at);
+    let at = text::column(Cell::Value(s.t), b' ', out, at);
+    let at = text::column(Cell::Value(q.v), b' ', out, at);
+    let at = text::column(Cell::Value(q.u), b' ', out, at);
+    let at = text::column(Cell::Value(q.h), b' ', out, at);
+    let at = text::column(Cell::Value(q.s), b' ', out, at);
+    let at = text::column(Cell::Value(q.cp), b' ', out, at);
+    text::column(Cell::Value(q.w), b'\n', out, at)
+}
+
+// Writes that nothing is refused, and a state.
+fn collected(s: Single, out: &mut [u8], at: usize) -> usize
+    ensures { λ r. ⌜ Written (now (out .entry)) at ((48 ∷ blank ∷ []) ++ stateColumns s) (now (out .exit)) r ⌝ }
+{
+    let at = text::bytes(b"0 ", out, at);
+    state(s, out, at)
+}
+
+// Writes what a call handed out.
+fn answered(call: Call, answer: Answer, out: &mut [u8], at: usize) -> usize
+    ensures { λ r. ⌜ Written (now (out .entry)) at (answerOf call answer) (now (out .exit)) r ⌝ }
+{
+    match answer {
+        Answer::Refused(n) => refused(call, n, out, at),
+        Answer::Ticket(t) => ticket(t, out, at),
+        Answer::Shown { halvings, lo, hi } => bracket(halvings, lo, hi, out, at),
+        Answer::State(s) => {
+            let single = s.single;
+            collected(single, out, at)
+        }
+        Answer::Halved | Answer::Idle | Answer::Freed => text::bytes(b"0\n", out, at),
+    }
+}
+
+// Writes the line of a call: its number, its name, the refusal or 0, and what it handed out.
+pub fn told(number: u64, call: Call, answer: Answer, out: &mut [u8]) -> usize
+    ensures { λ r. ⌜ Written (now (out .entry)) 0 (callLine number call answer) (now (out .exit)) r ⌝ }
+{
+    let at = named(number, call, out);
+    answered(call, answer, out, at)
+}

@@ -1,0 +1,3 @@
+-- `Fits`: how long a text can be. `Only`: no second result.
+pub mod Fits
+pub mod Only

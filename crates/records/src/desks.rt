@@ -1,0 +1,85 @@
+// A desk in words (specs/Records.antt): behind the five words of its record the pointer, eight counts and
+// 32 rows of ten words each.
+use rows::Desk;
+use rows::Row;
+ghost use mathlib.Core.Path.{_≡_};
+ghost use Prim.Native.Nat.{_<_};
+ghost use Rattle.records.specs.Records.{made, rowsKnown, rowIn, countIn, deskIn};
+
+// Whether the words of a desk are all there, and each row is filled or not, 1 or 0.
+pub(crate) fn rows_known(rest: &[u8]) -> bool
+    ensures { λ r. ⌜ r ≡ rowsKnown (now (rest .entry)) ⌝ }
+{
+    if rest.len() < 2672 {
+        return false;
+    }
+    let mut i = 0;
+    while i < 32 {
+        if 1 < sheet::word(rest, 14 + 10 * i) {
+            return false;
+        }
+        i += 1;
+    }
+    true
+}
+
+// Row i of the desk.
+fn row_in(rest: &[u8], i: usize) -> Row
+    requires { ⌜ i < 32 ⌝ }
+    ensures { λ r. ⌜ r ≡ rowIn (now (rest .entry)) i ⌝ }
+{
+    let k = 14 + 10 * i;
+    Row {
+        filled: sheet::word(rest, k) == 1,
+        caller: sheet::word(rest, k + 1),
+        ticket: sheet::word(rest, k + 2),
+        kind: sheet::word(rest, k + 3),
+        region: sheet::word(rest, k + 4),
+        p: arith::float_of(sheet::word(rest, k + 5)),
+        y: arith::float_of(sheet::word(rest, k + 6)),
+        halvings: sheet::word(rest, k + 7),
+        lo: arith::float_of(sheet::word(rest, k + 8)),
+        hi: arith::float_of(sheet::word(rest, k + 9)),
+    }
+}
+
+// The rows of the desk.
+fn rows_in(rest: &[u8]) -> [Row; 32]
+    ensures { λ r. ⌜ r ≡ made (rowIn (now (rest .entry))) 32 ⌝ }
+{
+    let first = row_in(rest, 0);
+    let mut rows = [first; 32];
+    let mut i = 0;
+    while i < 32 {
+        let r = row_in(rest, i);
+        rows[i] = r;
+        i += 1;
+    }
+    rows
+}
+
+// How many tickets each caller was given.
+fn counts_in(rest: &[u8]) -> [u64; 8]
+    ensures { λ r. ⌜ r ≡ made (countIn (now (rest .entry))) 8 ⌝ }
+{
+    let mut counts = [0u64; 8];
+    let mut c = 0;
+    while c < 8 {
+        counts[c] = sheet::word(rest, 6 + c);
+        c += 1;
+    }
+    counts
+}
+
+// The desk behind a record.
+pub fn desk_in(rest: &[u8]) -> Desk
+    ensures { λ r. ⌜ r ≡ deskIn (now (rest .entry)) ⌝ }
+{
+    let rows = rows_in(rest);
+    let counts = counts_in(rest);
+    Desk {
+        rows: rows,
+        counts: counts,
+        pointer: sheet::word(rest, 5),
+    }
+}
