@@ -27,6 +27,12 @@ fn table5(tally: Tally) -> Tally {
 
 // Table 9: p(h,s) of region 2.
 fn table9(tally: Tally) -> Tally {
+    let tally = table9_2a(tally);
+    let tally = table9_2b(tally);
+    table9_2c(tally)
+}
+
+fn table9_2a(tally: Tally) -> Tally {
     tally
         .line(b"003-9 p2a(2800,6.5)", p2_hs(2800.0, 6.5), 1_371_012_767, 1)
         .line(
@@ -36,9 +42,17 @@ fn table9(tally: Tally) -> Tally {
             -2,
         )
         .line(b"003-9 p2a(4100,9.5)", p2_hs(4100.0, 9.5), 1_024_788_997, 0)
+}
+
+fn table9_2b(tally: Tally) -> Tally {
+    tally
         .line(b"003-9 p2b(2800,6)", p2_hs(2800.0, 6.0), 4_793_911_442, 1)
         .line(b"003-9 p2b(3600,6)", p2_hs(3600.0, 6.0), 8_395_519_209, 2)
         .line(b"003-9 p2b(3600,7)", p2_hs(3600.0, 7.0), 7_527_161_441, 1)
+}
+
+fn table9_2c(tally: Tally) -> Tally {
+    tally
         .line(b"003-9 p2c(2800,5.1)", p2_hs(2800.0, 5.1), 9_439_202_060, 2)
         .line(b"003-9 p2c(2800,5.8)", p2_hs(2800.0, 5.8), 8_414_574_124, 1)
         .line(b"003-9 p2c(3400,5.8)", p2_hs(3400.0, 5.8), 8_376_903_879, 2)

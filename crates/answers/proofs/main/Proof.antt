@@ -1,6 +1,8 @@
 -- `answers::main` is safe: the place behind the text is within the room (`inside`). Assumes nothing.
-use native.Mathlib.Omega.{arith}
-use borrow.Author.Needs.{needs}
+use Prim.Native.Nat.{ℕ}
+use mathlib.Core.Path.{sym}
+use lib.ListN.{length-replicate}
+use borrow.Author.Needs.{needs, zero≤}
 use Rattle.text.proofs.Pieces.{inside}
 use Rattle.answers.proofs.main.Statement.{statement}
 use Rattle.answers.proofs.main.Tie as tie
@@ -18,16 +20,16 @@ slice-aggregate-answers : tie.Need-slice-aggregate-answers
 slice-aggregate-answers c = search needs
 
 slice-aggregate-answers-2 : tie.Need-slice-aggregate-answers-2
-slice-aggregate-answers-2 c = search needs
+slice-aggregate-answers-2 c = sym (length-replicate {A = ℕ} 600000 0)
 
 answers-requires : tie.Need-answers-requires
 answers-requires c κs = search needs
 
 array-share-prefix-text : tie.Need-array-share-prefix-text
-array-share-prefix-text c = inside (c .before .answers .ensures) (omega arith) .0
+array-share-prefix-text c = inside (c .before .answers .ensures) zero≤ .0
 
 slice-aggregate-write-all : tie.Need-slice-aggregate-write-all
-slice-aggregate-write-all c = inside (c .before .before .answers .ensures) (omega arith) .1
+slice-aggregate-write-all c = inside (c .before .before .answers .ensures) zero≤ .1
 
 write-all-requires : tie.Need-write-all-requires
 write-all-requires c κs = search needs
