@@ -5,7 +5,7 @@ use lib.ListN.{length, length-append}
 use Rattle.text.specs.declared.Cell.the-variants.{Value}
 use Rattle.text.proofs.Lengths.{digits, column-short}
 use Rattle.states.specs.declared.Single.{Single}
-use Rattle.rows.specs.Search.{bit}
+use Rattle.ledger.specs.Search.{bit}
 use Rattle.desk.specs.declared.Answer.{Answer}
 use Rattle.desk.specs.declared.Answer.the-variants.{Refused, Ticket, Halved, Idle, Shown, State, Freed}
 use Rattle.records.specs.declared.Call.{Call}

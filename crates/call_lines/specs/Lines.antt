@@ -3,7 +3,7 @@ use Prim.Native.Nat.{ℕ}
 use mathlib.Core.List.{List, [], _∷_, _++_}
 use Rattle.text.specs.Texts.{blank, newline, numberColumn, floatColumn}
 use Rattle.states.specs.declared.Single.{Single}
-use Rattle.rows.specs.Search.{bit}
+use Rattle.ledger.specs.Search.{bit}
 use Rattle.desk.specs.declared.Answer.{Answer}
 use Rattle.desk.specs.declared.Answer.the-variants.{Refused, Ticket, Halved, Idle, Shown, State, Freed}
 use Rattle.records.specs.declared.Call.{Call}

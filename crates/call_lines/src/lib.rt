@@ -7,7 +7,7 @@ ghost use mathlib.Core.Path.{_≡_};
 ghost use mathlib.Core.List.{[], _∷_, _++_};
 ghost use Rattle.text.specs.Room.{Written};
 ghost use Rattle.text.specs.Texts.{blank, newline, numberColumn, floatColumn};
-ghost use Rattle.rows.specs.Search.{bit};
+ghost use Rattle.ledger.specs.Search.{bit};
 ghost use Rattle.call_lines.specs.Lines.{nameOf, refusedOf, stateColumns, answerOf, callLine};
 
 // A mark as a number.

@@ -1,8 +1,8 @@
 -- A halving leaves a row its caller's and its ticket's. Assumes nothing.
 use mathlib.Core.Path.{_≡_, refl}
 use Prim.Native.Nat.{ℕ}
-use Rattle.rows.specs.declared.Row.{Row}
-use Rattle.rows.specs.Rows.{held, ofCaller}
+use Rattle.ledger.specs.declared.Row.{Row}
+use Rattle.ledger.specs.Rows.{held, ofCaller}
 use Rattle.desk.specs.Model.{halvedRow}
 
 module _ (c : ℕ) (r : Row) where

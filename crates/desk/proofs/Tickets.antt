@@ -5,11 +5,11 @@ use Prim.Native.Nat.{ℕ, _<_}
 use native.Mathlib.Omega.{arith}
 use lib.Dec.{ltb}
 use borrow.Author.Tests.{ltb-true, lt-ltb}
-use Rattle.rows.specs.declared.Desk.{Desk}
+use Rattle.ledger.specs.declared.Desk.{Desk}
 use Rattle.desk.specs.declared.Open.the-variants.{At, Closed}
-use Rattle.rows.specs.Rows.{row, held, lowest, sound}
+use Rattle.ledger.specs.Rows.{row, held, lowest, sound}
 use Rattle.desk.specs.Model.{openOf}
-use Rattle.rows.proofs.Changes.{lowest-true, lowest-le}
+use Rattle.ledger.proofs.Changes.{lowest-true, lowest-le}
 
 -- row i is caller c's and ticket t's
 pub record Seat (d : Desk) (c t i : ℕ) : Type 0 where

@@ -9,16 +9,16 @@ use lib.ListN.{getD}
 use mir.Val.{Val}
 use denote.Laws.{Is}
 use denote.Struct.Declared.{row as owned}
-use Rattle.rows.proofs.Desk as DeskT
-use Rattle.rows.specs.declared.Row.{Row}
-use Rattle.rows.specs.declared.Desk.{Desk}
+use Rattle.ledger.proofs.Desk as DeskT
+use Rattle.ledger.specs.declared.Row.{Row}
+use Rattle.ledger.specs.declared.Desk.{Desk}
 use Rattle.desk.specs.declared.Answer.the-variants as Answer
 use Rattle.desk.specs.declared.Open.the-variants.{At}
-use Rattle.rows.specs.Rows.{due, row, unfinished, sound, put}
+use Rattle.ledger.specs.Rows.{due, row, unfinished, sound, put}
 use Rattle.desk.specs.Model.{answers, refuse, queryOf, bracketOf, settle, halvedRow, next, past, turnOf, openOf, emptied, collectOf, collectAt, peekOf, peekAt}
-use Rattle.rows.proofs.Tests.{unfinished-is}
-use Rattle.rows.proofs.Changes.{onward-true}
-use Rattle.rows.proofs.Lists.{row-is}
+use Rattle.ledger.proofs.Tests.{unfinished-is}
+use Rattle.ledger.proofs.Changes.{onward-true}
+use Rattle.ledger.proofs.Lists.{row-is}
 use Rattle.desk.proofs.Tickets.{open-seat}
 
 -- r stands past the end of the rows

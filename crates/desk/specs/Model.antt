@@ -5,9 +5,9 @@ use mathlib.Core.Bool.{true, cond, _&&_}
 use lib.Dec.{ltb}
 use lib.ListN.{set, replicate}
 use lib.Ieee.{Float}
-use Rattle.rows.specs.declared.Row.{Row}
-use Rattle.rows.specs.declared.Desk.{Desk}
-use Rattle.rows.specs.Rows.{due, most, blank, row, counted, held, ofCaller, vacant, unfinished, tally, onward, lowest, put, between, sound}
+use Rattle.ledger.specs.declared.Row.{Row}
+use Rattle.ledger.specs.declared.Desk.{Desk}
+use Rattle.ledger.specs.Rows.{due, most, blank, row, counted, held, ofCaller, vacant, unfinished, tally, onward, lowest, put, between, sound}
 use Rattle.settle.specs.declared.Bracket.{Bracket}
 use Rattle.settle.specs.declared.Judged.{Judged}
 use Rattle.settle.specs.declared.Judged.the-variants as Judged

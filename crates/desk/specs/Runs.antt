@@ -10,12 +10,12 @@ use Rattle.settle.specs.declared.Bracket.{Bracket}
 use Rattle.settle.specs.declared.Judged.the-variants.{Within}
 use Rattle.settle.specs.declared.Settled.{Settled}
 use Rattle.settle.specs.Settle.{judgedOf}
-use Rattle.rows.specs.declared.Desk.{Desk}
+use Rattle.ledger.specs.declared.Desk.{Desk}
 use Rattle.desk.specs.declared.Answer.{Answer}
 use Rattle.desk.specs.declared.Answer.the-variants.{Ticket, State}
 use Rattle.desk.specs.declared.Outcome.{Outcome}
-use Rattle.rows.specs.Search.{bit}
-use Rattle.rows.specs.Rows.{due, row, held}
+use Rattle.ledger.specs.Search.{bit}
+use Rattle.ledger.specs.Rows.{due, row, held}
 use Rattle.desk.specs.Model.{newDesk, next, Query, halve, settle, postOf, turnOf, peekOf, collectOf, withdrawOf}
 
 -- ---- calls and runs

@@ -10,8 +10,8 @@ pub use calls::peek;
 pub use calls::post;
 pub use calls::turn;
 pub use calls::withdraw;
-pub use rows::Desk;
-pub use rows::Row;
+pub use ledger::Desk;
+pub use ledger::Row;
 use settle::Settled;
 
 // What a call answers: any of them a refusal number, a post a ticket, a turn that it halved or that

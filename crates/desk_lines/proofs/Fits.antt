@@ -7,9 +7,9 @@ use lib.ListN.{length, length-append}
 use Rattle.text.specs.Texts.{blank, numberColumn}
 use Rattle.text.specs.declared.Cell.the-variants.{Value}
 use Rattle.text.proofs.Lengths.{digits, column-short, joined-short}
-use Rattle.rows.specs.Rows.{row, counted}
-use Rattle.rows.specs.declared.Row.{Row}
-use Rattle.rows.specs.declared.Desk.{Desk}
+use Rattle.ledger.specs.Rows.{row, counted}
+use Rattle.ledger.specs.declared.Row.{Row}
+use Rattle.ledger.specs.declared.Desk.{Desk}
 use Rattle.desk_lines.specs.Lines.{countColumns, deskLine, rowLine, shownLines}
 
 number-short : (n end : ℕ) → length (numberColumn n end) ≤ 21

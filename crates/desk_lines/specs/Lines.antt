@@ -3,9 +3,9 @@ use Prim.Native.Nat.{ℕ}
 use mathlib.Core.Bool.{cond}
 use mathlib.Core.List.{List, [], _∷_, _++_}
 use Rattle.text.specs.Texts.{blank, newline, numberColumn, floatColumn, joined}
-use Rattle.rows.specs.Rows.{row, counted}
-use Rattle.rows.specs.declared.Row.{Row}
-use Rattle.rows.specs.declared.Desk.{Desk}
+use Rattle.ledger.specs.Rows.{row, counted}
+use Rattle.ledger.specs.declared.Row.{Row}
+use Rattle.ledger.specs.declared.Desk.{Desk}
 
 -- the counts of callers 0 to 7
 unfoldable pub countColumns : Desk → List ℕ

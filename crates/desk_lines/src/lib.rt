@@ -1,7 +1,7 @@
 // A desk in words for people: its pointer and counts on one line, and a line for each row that is filled
 // (specs/Lines.antt).
-use rows::Desk;
-use rows::Row;
+use ledger::Desk;
+use ledger::Row;
 use text::Cell;
 ghost use Rattle.text.specs.Room.{Written};
 ghost use Rattle.desk_lines.specs.Lines.{countColumns, deskLine, rowLine, shownLines};

@@ -1,5 +1,6 @@
 // For counting instructions (bench/count): works the operation that the first byte of standard input
-// names once for each byte behind it, with another argument each time, and says that it ended.
+// names once for each byte behind it, with other arguments each time, so that no part of it can be
+// worked once for all turns, and says that it ended; `below zero` says that one of them was refused.
 
 use desk::Answer as Answered;
 use desk::Desk;
@@ -15,7 +16,10 @@ fn sum_of(a: State) -> f64 {
     a.v + a.u + a.h + a.s + a.cp + a.w
 }
 
-// Every property of an answer, and its number if it is refused.
+// What a refusal counts in a sum: more than a thousand answers can make up for.
+const REFUSED: f64 = -1000000000.0;
+
+// Every property of an answer.
 fn answered(a: Answer) -> f64 {
     match a {
         Answer::Single(b) => {
@@ -23,38 +27,47 @@ fn answered(a: Answer) -> f64 {
             b.t + sum_of(state)
         }
         Answer::Wet(b) => b.t + b.v + b.u + b.h + b.s + b.x,
-        Answer::Refused(_) => -1.0,
+        Answer::Refused(_) => REFUSED,
     }
 }
 
 fn derived(d: Derivative) -> f64 {
     match d {
         Derivative::Value(v) => v,
-        Derivative::Refused(_) => -1.0,
+        Derivative::Refused(_) => REFUSED,
     }
 }
 
-// The value of one query at x.
+// The derivative of v, u, h or s by g or f at constant p or T: which, the bits of x decide.
+fn some_quotient(kind: u64, x: f64, y: f64) -> Derivative {
+    let bits = f64::to_bits(x);
+    sums::quotient(kind, x, y, 3 + bits % 4, 7 + bits / 4 % 2, 1 + bits / 8 % 2)
+}
+
+// The value of one query at x. Of a derivative, the three properties are part of what it is.
 fn queried(operation: u8, x: f64) -> f64 {
     match operation {
         b'A' => answered(sums::from_pt(x, 300.0 + 10.0 * x)),
         b'B' => answered(sums::from_pt(x, 700.0 + 10.0 * x)),
         b'C' => answered(sums::from_ph(x, 100.0 + 10.0 * x)),
-        b'D' => answered(sums::from_ph(x, 3300.0 + 10.0 * x)),
+        b'D' => answered(sums::from_ph(0.5 * x, 3300.0 + 10.0 * x)),
         b'E' => answered(sums::from_ph(x, 2000.0 + 10.0 * x)),
-        b'F' => answered(sums::from_hs(100.0 + 10.0 * x, 0.3)),
+        b'F' => answered(sums::from_hs(100.0 + 10.0 * x, 0.3 + 0.03 * x)),
         b'G' => derived(sums::quotient(1, x, 300.0 + 10.0 * x, 3, 2, 1)),
         b'H' => derived(sums::quotient(2, x, 100.0 + 10.0 * x, 3, 2, 1)),
+        b'I' => derived(some_quotient(1, x, 300.0 + 10.0 * x)),
+        b'J' => derived(some_quotient(2, x, 100.0 + 10.0 * x)),
         _ => x,
     }
 }
 
-// The value of one operation at x, which runs from 0.04 to 8.
+// The value of one operation at x, which runs from 0.04 to 8 in 110 turns: each stays in its region,
+// and none is below 0.
 fn worked(operation: u8, x: f64) -> f64 {
     match operation {
         b'r' => arith::root(x),
         b'f' => arith::fourth_root(x),
-        b'l' => arith::log(x),
+        b'l' => arith::log(30.0 * x),
         b'p' => arith::power(x, 17),
         b'1' => sum_of(Region1::state(x, 300.0 + 10.0 * x)),
         b'2' => sum_of(Region2::state(x, 700.0 + 10.0 * x)),
@@ -62,8 +75,8 @@ fn worked(operation: u8, x: f64) -> f64 {
         b'a' => saturation::ps(300.0 + 20.0 * x),
         b't' => saturation::ts(x),
         b'b' => backward::t1_ph(x, 100.0 + 10.0 * x),
-        b'c' => backward::t2_ps(0.1 * x, 7.5),
-        b'd' => backward::p1_hs(100.0 + 10.0 * x, 0.3),
+        b'c' => backward::t2_ps(0.1 * x, 7.5 + 0.1 * x),
+        b'd' => backward::p1_hs(100.0 + 10.0 * x, 0.3 + 0.03 * x),
         _ => queried(operation, x),
     }
 }
@@ -81,26 +94,30 @@ fn run(operation: u8, n: usize) -> f64 {
     sum
 }
 
-// Four jobs of each caller in region 1, so that every row is filled.
-fn full_desk() -> Desk {
+// So many jobs in region 1, one of each caller in turn.
+fn desk_of(jobs: u64) -> Desk {
     let mut d = desk::new_desk();
+    let mut y = 100.0;
     let mut k = 0u64;
-    while k < 32 {
-        let o = desk::post(d, k / 4, 2, 1.0, 500.0);
+    while k < jobs {
+        let o = desk::post(d, k % 8, 2, 1.0, y);
         let e = o.desk;
         d = e;
+        y = y + 10.0;
         k += 1;
     }
     d
 }
 
-// One call on a full desk.
-fn called(operation: u8, d: Desk) -> Outcome {
+// A turn, a peek at the job of turn k, or a call that is refused: a withdraw of a ticket that is not
+// open, a peek of an unknown caller.
+fn called(operation: u8, d: Desk, k: usize) -> Outcome {
+    let n = (k % 32) as u64;
     match operation {
         b'T' => desk::turn(d),
-        b'P' => desk::peek(d, 7, 3),
-        b'W' => desk::withdraw(d, 7, 4),
-        _ => desk::peek(d, 8, 0),
+        b'P' => desk::peek(d, n % 8, n / 8),
+        b'W' => desk::withdraw(d, n % 8, n + 4),
+        _ => desk::peek(d, n + 8, n),
     }
 }
 
@@ -118,16 +135,16 @@ fn shown(d: Desk) -> f64 {
     }
 }
 
-// n of them, one behind the other; U on a desk whose pointer is out of range, where nothing else is
-// tested.
+// n of them on a full desk, one behind the other; U with the pointer out of range, where nothing else
+// is tested.
 fn run_desk(operation: u8, n: usize) -> f64 {
-    let mut d = full_desk();
+    let mut d = desk_of(32);
     if operation == b'U' {
         d.pointer = 32;
     }
     let mut k = 0usize;
     while k < n {
-        let o = called(operation, d);
+        let o = called(operation, d, k);
         let e = o.desk;
         d = e;
         k += 1;
@@ -135,12 +152,123 @@ fn run_desk(operation: u8, n: usize) -> f64 {
     shown(d)
 }
 
-fn is_desk(operation: u8) -> bool {
-    operation == b'T'
-        || operation == b'P'
-        || operation == b'W'
-        || operation == b'S'
-        || operation == b'U'
+// Five withdraws, one behind the other.
+fn five_withdraws(first: Desk, k: usize) -> f64 {
+    let mut d = first;
+    let mut j = 0usize;
+    while j < 5 {
+        let n = ((k % 1000 + j) % 32) as u64;
+        let o = desk::withdraw(d, n % 8, n / 8);
+        let e = o.desk;
+        d = e;
+        j += 1;
+    }
+    d.rows[31].hi
+}
+
+// n of them, five on each of as many copies of a full desk.
+fn run_withdraws(n: usize) -> f64 {
+    let d = desk_of(32);
+    let mut sum = 0.0;
+    let mut k = 0usize;
+    while k < n / 5 {
+        sum = sum + five_withdraws(d, 5 * (k % 200));
+        k += 1;
+    }
+    sum
+}
+
+// Five posts, one behind the other, each by another caller.
+fn five_posts(first: Desk, start: f64) -> f64 {
+    let mut d = first;
+    let mut x = start;
+    let mut j = 0usize;
+    while j < 5 {
+        let o = desk::post(d, 3 + (j % 5) as u64, 2, x, 100.0 + 10.0 * x);
+        let e = o.desk;
+        d = e;
+        x = x * 1.05;
+        j += 1;
+    }
+    d.rows[31].hi
+}
+
+// n of them, five on each of as many copies of a desk, which they fill.
+fn run_posts(n: usize) -> f64 {
+    let d = desk_of(27);
+    let mut x = 0.0371;
+    let mut sum = 0.0;
+    let mut k = 0usize;
+    while k < n / 5 {
+        sum = sum + five_posts(d, x);
+        x = x * 1.25;
+        k += 1;
+    }
+    sum
+}
+
+// A full desk of jobs that are ready.
+fn ready_desk() -> Desk {
+    let mut d = desk_of(32);
+    let mut i = 0usize;
+    while i < 32 {
+        let mut r = d.rows[i];
+        r.halvings = 40;
+        d.rows[i] = r;
+        i += 1;
+    }
+    d
+}
+
+// The state that a collect hands out.
+fn handed_out(a: Answered) -> f64 {
+    match a {
+        Answered::State(s) => {
+            let state = s.single.state;
+            sum_of(state)
+        }
+        _ => REFUSED,
+    }
+}
+
+// Five collects, one behind the other.
+fn five_collects(first: Desk, k: usize) -> f64 {
+    let mut d = first;
+    let mut sum = 0.0;
+    let mut j = 0usize;
+    while j < 5 {
+        let n = ((k % 1000 + j) % 32) as u64;
+        let o = desk::collect(d, n % 8, n / 8);
+        let a = o.answer;
+        let e = o.desk;
+        d = e;
+        sum = sum + handed_out(a);
+        j += 1;
+    }
+    sum + d.rows[31].hi
+}
+
+// n of them, five on each of as many copies of that desk.
+fn run_collects(n: usize) -> f64 {
+    let d = ready_desk();
+    let mut sum = 0.0;
+    let mut k = 0usize;
+    while k < n / 5 {
+        sum = sum + five_collects(d, 5 * (k % 200));
+        k += 1;
+    }
+    sum
+}
+
+// n times the operation that a letter names.
+fn measured(operation: u8, n: usize) -> f64 {
+    match operation {
+        b'T' | b'P' | b'W' | b'S' | b'U' => run_desk(operation, n),
+        b'V' => run_withdraws(n),
+        b'O' => run_posts(n),
+        b'K' => run_collects(n),
+        _ => run(operation, n),
+    }
 }
 
 fn main() {
@@ -150,12 +278,7 @@ fn main() {
         io::write_all(1, b"no operation\n");
         return;
     }
-    let operation = buffer[0];
-    let value = if is_desk(operation) {
-        run_desk(operation, got - 1)
-    } else {
-        run(operation, got - 1)
-    };
+    let value = measured(buffer[0], got - 1);
     if value < 0.0 {
         io::write_all(1, b"below zero\n");
     } else {

@@ -8,7 +8,7 @@ use borrow.Author.Tests.{leb-true}
 use lib.Dec.{leb, eqb}
 use lib.ListN.{length}
 use Rattle.sheet.specs.Words.{wordOf}
-use Rattle.rows.proofs.Search.{and-true}
+use Rattle.ledger.proofs.Search.{and-true}
 use Rattle.records.specs.declared.Deed.{Deed}
 use Rattle.records.specs.declared.Deed.the-variants.{Asked, Turns, Given, Shown, Bad}
 use Rattle.records.specs.Records.{recordBytes, deskBytes, mostTurns, called, plainOf, rowsKnown, deedOf}

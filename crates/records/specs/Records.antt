@@ -7,9 +7,9 @@ use lib.Dec.{leb, eqb}
 use lib.ListN.{length}
 use Rattle.arith.specs.Bits.{floatOf}
 use Rattle.sheet.specs.Words.{wordOf}
-use Rattle.rows.specs.Search.{upto}
-use Rattle.rows.specs.declared.Row.{Row}
-use Rattle.rows.specs.declared.Desk.{Desk}
+use Rattle.ledger.specs.Search.{upto}
+use Rattle.ledger.specs.declared.Row.{Row}
+use Rattle.ledger.specs.declared.Desk.{Desk}
 use Rattle.records.specs.declared.Call.the-variants.{Post, Peek, Collect, Withdraw}
 use Rattle.records.specs.declared.Deed.{Deed}
 use Rattle.records.specs.declared.Deed.the-variants.{Asked, Turns, Given, Shown, Bad}

@@ -1,7 +1,7 @@
 // A desk in words (specs/Records.antt): behind the five words of its record the pointer, eight counts and
 // 32 rows of ten words each.
-use rows::Desk;
-use rows::Row;
+use ledger::Desk;
+use ledger::Row;
 ghost use mathlib.Core.Path.{_≡_};
 ghost use Prim.Native.Nat.{_<_};
 ghost use Rattle.records.specs.Records.{made, rowsKnown, rowIn, countIn, deskIn};

@@ -3,7 +3,7 @@ use Prim.Native.Nat.{ℕ, _≤_, _<_}
 use mathlib.Core.List.{List}
 use native.Mathlib.Omega.{arith}
 use lib.ListN.{length}
-use Rattle.rows.specs.declared.Desk.{Desk}
+use Rattle.ledger.specs.declared.Desk.{Desk}
 use Rattle.records.specs.Records.{deedOf}
 use Rattle.records.proofs.Ways.{read-has}
 use Rattle.transcript.specs.declared.Step.{Step}

@@ -6,7 +6,7 @@ use mathlib.Core.List.{List}
 use lib.ListN.{length, take, drop, length-drop}
 use lib.Seq.{take-length, drop-drop}
 use Rattle.desk.specs.Model.{newDesk}
-use Rattle.rows.specs.declared.Desk.{Desk}
+use Rattle.ledger.specs.declared.Desk.{Desk}
 use Rattle.transcript.specs.declared.Step.{Step}
 use Rattle.records.specs.Records.{deedOf}
 use Rattle.transcript.specs.Steps.{deskAfter, takenBy, Done, textOf, standing, deedAt, recordText}

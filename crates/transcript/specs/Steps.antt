@@ -7,7 +7,7 @@ use lib.ListN.{length, drop}
 use Rattle.text.specs.Texts.{joined}
 use Rattle.desk.specs.Model.{newDesk, turnOf}
 use Rattle.desk.specs.Runs as Runs
-use Rattle.rows.specs.declared.Desk.{Desk}
+use Rattle.ledger.specs.declared.Desk.{Desk}
 use Rattle.desk.specs.declared.Answer.{Answer}
 use Rattle.desk.specs.declared.Answer.the-variants as Answer
 use Rattle.desk.specs.declared.Outcome.{Outcome}

@@ -12,15 +12,15 @@ use Rattle.settle.specs.declared.Judged.{Judged}
 use Rattle.settle.specs.declared.Judged.the-variants as Judged
 use Rattle.settle.specs.declared.Settled.{Settled}
 use Rattle.settle.specs.Settle.{judgedOf}
-use Rattle.rows.specs.declared.Row.{Row}
-use Rattle.rows.specs.declared.Desk.{Desk}
+use Rattle.ledger.specs.declared.Row.{Row}
+use Rattle.ledger.specs.declared.Desk.{Desk}
 use Rattle.desk.specs.declared.Answer.{Answer}
 use Rattle.desk.specs.declared.Answer.the-variants.{Refused, Ticket, Halved, Idle, Shown, State, Freed}
 use Rattle.desk.specs.declared.Open.{Open}
 use Rattle.desk.specs.declared.Open.the-variants.{At, Closed}
-use Rattle.rows.specs.Rows.{due, most, row, counted, ofCaller, vacant, tally, lowest, between, sound}
+use Rattle.ledger.specs.Rows.{due, most, row, counted, ofCaller, vacant, tally, lowest, between, sound}
 use Rattle.desk.specs.Model.{newDesk, answers, refuse, numberOf, queryOf, bracketOf, settle, fresh, seated, admitted, judgedPost, postOf, next, turnedAt, turnOf, openOf, emptied, peekAt, collectAt, withdrawAt, peekOf, collectOf, withdrawOf}
-use Rattle.rows.proofs.Good.{good-sound, sound-good, free-row}
+use Rattle.ledger.proofs.Good.{good-sound, sound-good, free-row}
 use Rattle.desk.specs.Runs.{Call, post, turn, peek, collect, withdraw, step, afterFrom, after, answerTo, Entry, historyFrom, history, ownCalls, ownPart, enough, turns, OpenFor, Patient, CollectsGive, asked, HalvedTo, SettledTo, Origin, received}
 use Rattle.desk.proofs.Runs.Kept.{good-new, good-step}
 use Rattle.desk.proofs.Runs.Own.{followed, peeked, collected, peek-at, collect-at, collect-ready}

@@ -7,14 +7,14 @@ use native.Mathlib.Omega.{arith}
 use native.Mathlib.Numerals.{add-one}
 use lib.ListN.{set}
 use Rattle.settle.specs.declared.Bracket.{Bracket}
-use Rattle.rows.specs.declared.Row.{Row}
-use Rattle.rows.specs.declared.Desk.{Desk}
-use Rattle.rows.specs.Rows.{due, blank, row, counted, held, vacant, unfinished, lowest}
+use Rattle.ledger.specs.declared.Row.{Row}
+use Rattle.ledger.specs.declared.Desk.{Desk}
+use Rattle.ledger.specs.Rows.{due, blank, row, counted, held, vacant, unfinished, lowest}
 use Rattle.desk.specs.Model.{fresh, Query, queryOf, bracketOf, halve, halvedRow, next, past, turnedAt}
-use Rattle.rows.proofs.Tests.{held-is, held-empty, unfinished-is, is-unfinished}
+use Rattle.ledger.proofs.Tests.{held-is, held-empty, unfinished-is, is-unfinished}
 use Rattle.desk.proofs.Halved.{held-halved}
-use Rattle.rows.proofs.Changes.{row-each, counts-each, onward-true, onward-le}
-use Rattle.rows.proofs.Good.{Good}
+use Rattle.ledger.proofs.Changes.{row-each, counts-each, onward-true, onward-le}
+use Rattle.ledger.proofs.Good.{Good}
 use Rattle.desk.specs.Runs.{Call, step, isTurn, times}
 use Rattle.desk.proofs.Runs.Round.{ahead, ahead-lt, ahead-back, ahead-next}
 use Rattle.desk.proofs.Runs.Posts.{Job}

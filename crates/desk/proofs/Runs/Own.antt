@@ -12,16 +12,16 @@ use borrow.Author.Tests.{ltb-true, ltb-false, le-ltb}
 use Rattle.settle.specs.declared.Judged.the-variants.{Within}
 use Rattle.settle.specs.declared.Settled.{Settled}
 use Rattle.settle.specs.Settle.{judgedOf}
-use Rattle.rows.specs.declared.Desk.{Desk}
+use Rattle.ledger.specs.declared.Desk.{Desk}
 use Rattle.desk.specs.declared.Outcome.{Outcome}
 use Rattle.desk.specs.declared.Answer.the-variants.{Ticket, Shown, State}
 use Rattle.desk.specs.declared.Open.{Open}
 use Rattle.desk.specs.declared.Open.the-variants.{At, Closed}
-use Rattle.rows.specs.Rows.{due, row, counted, held, ofCaller, vacant, tally, lowest}
+use Rattle.ledger.specs.Rows.{due, row, counted, held, ofCaller, vacant, tally, lowest}
 use Rattle.desk.specs.Model.{newDesk, answers, refuse, Query, queryOf, bracketOf, halve, settle, fresh, openOf, emptied, peekAt, collectAt, peekOf, collectOf}
-use Rattle.rows.proofs.Tests.{held-is}
-use Rattle.rows.proofs.Changes.{row-each}
-use Rattle.rows.proofs.Good.{Good, good-sound}
+use Rattle.ledger.proofs.Tests.{held-is}
+use Rattle.ledger.proofs.Changes.{row-each}
+use Rattle.ledger.proofs.Good.{Good, good-sound}
 use Rattle.desk.proofs.Tickets.{Seat, open-seat, seat-open}
 use Rattle.desk.specs.Runs.{Call, post, peek, collect, step, afterFrom, after, answerTo, isTurn, turns, enough, OpenFor, times, asked, HalvedTo, SettledTo}
 use Rattle.desk.proofs.Runs.Round.{ahead-lt}

@@ -6,15 +6,15 @@ use Prim.Native.Nat.{ℕ, _+_, _%_, _<_}
 use native.Mathlib.Omega.{arith}
 use lib.ListN.{set}
 use Rattle.settle.specs.declared.Settled.{Settled}
-use Rattle.rows.specs.declared.Desk.{Desk}
+use Rattle.ledger.specs.declared.Desk.{Desk}
 use Rattle.desk.specs.declared.Answer.{Answer}
 use Rattle.desk.specs.declared.Answer.the-variants.{Ticket, State}
-use Rattle.rows.specs.Rows.{blank, row, counted, held, vacant, lowest}
+use Rattle.ledger.specs.Rows.{blank, row, counted, held, vacant, lowest}
 use Rattle.desk.specs.Model.{newDesk, fresh, halvedRow, next, past, postOf}
-use Rattle.rows.proofs.Tests.{held-empty}
+use Rattle.ledger.proofs.Tests.{held-empty}
 use Rattle.desk.proofs.Halved.{held-halved}
-use Rattle.rows.proofs.Changes.{row-each}
-use Rattle.rows.proofs.Good.{Good, good-sound}
+use Rattle.ledger.proofs.Changes.{row-each}
+use Rattle.ledger.proofs.Good.{Good, good-sound}
 use Rattle.desk.specs.Runs.{Call, post, turn, collect, step, afterFrom, after, answerTo, OpenFor, Patient, CollectsGive, Origin}
 use Rattle.desk.proofs.Runs.Posts.{post-ruled}
 use Rattle.desk.proofs.Runs.Kept.{Effect, kept, idled, turned, seated, freed, effect, good-step, good-new, row-new, held-fresh, seat-free}

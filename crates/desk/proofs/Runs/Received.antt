@@ -10,16 +10,16 @@ use lib.ListN.{set}
 use lib.Seq.{getD-set-same}
 use lib.Ieee.{Float}
 use borrow.Author.Tests.{lt-ltb, le-ltb}
-use Rattle.rows.specs.declared.Desk.{Desk}
+use Rattle.ledger.specs.declared.Desk.{Desk}
 use Rattle.desk.specs.declared.Answer.the-variants.{Ticket, Shown}
-use Rattle.rows.specs.Search.{bit}
-use Rattle.rows.specs.Rows.{due, blank, row, counted, held, ofCaller, vacant, tally, lowest}
+use Rattle.ledger.specs.Search.{bit}
+use Rattle.ledger.specs.Rows.{due, blank, row, counted, held, ofCaller, vacant, tally, lowest}
 use Rattle.desk.specs.Model.{newDesk, fresh, halvedRow, next, past, turnedAt}
-use Rattle.rows.proofs.Search.{counted-once}
-use Rattle.rows.proofs.Tests.{held-is, held-empty}
+use Rattle.ledger.proofs.Search.{counted-once}
+use Rattle.ledger.proofs.Tests.{held-is, held-empty}
 use Rattle.desk.proofs.Halved.{held-halved}
-use Rattle.rows.proofs.Changes.{row-each, counts-each}
-use Rattle.rows.proofs.Good.{Good}
+use Rattle.ledger.proofs.Changes.{row-each, counts-each}
+use Rattle.ledger.proofs.Good.{Good}
 use Rattle.desk.specs.Runs.{Call, post, peek, step, afterFrom, after, answerTo, goesTo, received}
 use Rattle.desk.proofs.Runs.Posts.{Job, Granted, seats}
 use Rattle.desk.proofs.Runs.Kept.{Effect, kept, idled, turned, seated, freed, effect, good-step, held-fresh, seat-free, counts-wide, was-given}

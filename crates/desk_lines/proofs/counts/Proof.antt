@@ -5,7 +5,7 @@ use Rattle.text.specs.Room.{Written}
 use Rattle.text.specs.Texts.{blank, numberColumn, joined}
 use Rattle.text.proofs.Pieces.{then, kept}
 use Rattle.text.proofs.Joined.{begun, turned, ended}
-use Rattle.rows.specs.Rows.{counted}
+use Rattle.ledger.specs.Rows.{counted}
 use Rattle.desk_lines.specs.Lines.{countColumns}
 use borrow.Author.Needs.{needs}
 use Rattle.desk_lines.proofs.counts.Statement.{statement}

@@ -4,7 +4,7 @@ use mathlib.Core.Bool.{true, false, not}
 use mathlib.Core.List.{List, [], _∷_, _++_}
 use borrow.Author.Tests.{not-true, not-false}
 use Rattle.text.specs.Texts.{blank, newline, numberColumn, floatColumn}
-use Rattle.rows.specs.declared.Row.{Row}
+use Rattle.ledger.specs.declared.Row.{Row}
 use Prim.Native.Nat.{ℕ}
 use Rattle.text.proofs.Pieces.{none, then, said, kept}
 use Rattle.desk_lines.specs.Lines.{rowLine}

@@ -6,8 +6,8 @@ use Rattle.text.specs.Room.{Written}
 use Rattle.text.specs.Texts.{joined}
 use Rattle.text.proofs.Pieces.{then, said, kept}
 use Rattle.text.proofs.Joined.{begun, turned, ended}
-use Rattle.rows.specs.Rows.{row}
-use Rattle.rows.proofs.Lists.{row-is}
+use Rattle.ledger.specs.Rows.{row}
+use Rattle.ledger.proofs.Lists.{row-is}
 use Rattle.desk_lines.specs.Lines.{rowLine, shownLines}
 use borrow.Author.Needs.{needs}
 use Rattle.desk_lines.proofs.shown.Statement.{statement}

@@ -11,8 +11,8 @@ Inv-loop operation n d₀ k₀ d k = k ≤ n
 abbrev μ-loop : tie.MeasureT-loop
 μ-loop operation n d₀ k₀ d k = n - k
 
-full-desk-requires : tie.Need-full-desk-requires Inv-loop μ-loop
-full-desk-requires c κs = search needs
+desk-of-requires : tie.Need-desk-of-requires Inv-loop μ-loop
+desk-of-requires c κs = search needs
 
 loop-holds : tie.Need-loop-holds Inv-loop μ-loop
 loop-holds c = omega arith
@@ -36,4 +36,4 @@ returns : tie.Need-returns Inv-loop μ-loop
 returns c = search needs
 
 pub run-desk-spec : {M : Type 1} → statement M
-run-desk-spec = tie.close (tie.spec Inv-loop μ-loop full-desk-requires loop-holds called-requires add-k loop-less loop-again shown-requires returns)
+run-desk-spec = tie.close (tie.spec Inv-loop μ-loop desk-of-requires loop-holds called-requires add-k loop-less loop-again shown-requires returns)

@@ -1,5 +1,5 @@
 -- `desk::calls::freed` meets its contract: row i is the blank row. Assumes nothing.
-use Rattle.rows.proofs.Lists.{row-fits}
+use Rattle.ledger.proofs.Lists.{row-fits}
 use Rattle.desk.proofs.calls.freed.Statement.{statement}
 use Rattle.desk.proofs.calls.freed.Tie as tie
 

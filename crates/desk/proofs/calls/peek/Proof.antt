@@ -3,7 +3,7 @@ use borrow.Author.Needs.{needs}
 use mathlib.Core.Path.{_≡_, sym, _∙_}
 use Prim.Native.Nat.{_<_}
 use Rattle.desk.specs.declared.Open.the-variants.{At}
-use Rattle.rows.proofs.Lists.{row-fits}
+use Rattle.ledger.proofs.Lists.{row-fits}
 use Rattle.desk.proofs.Tickets.{open-seat}
 use Rattle.desk.specs.Model.{openOf, peekOf, peekAt}
 use Rattle.desk.proofs.Ways.{peek-shows}

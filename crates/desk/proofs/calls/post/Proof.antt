@@ -5,9 +5,9 @@ use mathlib.Core.Bool.{true, _&&_}
 use Prim.Native.Nat.{_<_}
 use borrow.Author.Tests.{not-true, not-false, ltb-true}
 use lib.Dec.{ltb}
-use Rattle.rows.specs.Rows.{between, sound}
-use Rattle.rows.proofs.Search.{and-true}
-use Rattle.rows.proofs.Lists.{count-fits}
+use Rattle.ledger.specs.Rows.{between, sound}
+use Rattle.ledger.proofs.Search.{and-true}
+use Rattle.ledger.proofs.Lists.{count-fits}
 use Rattle.desk.specs.Model.{postOf, judgedPost}
 use Rattle.desk.proofs.calls.post.Statement.{statement}
 use Rattle.desk.proofs.calls.post.Tie as tie

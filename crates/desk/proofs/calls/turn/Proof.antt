@@ -6,8 +6,8 @@ use mir.Syntax.{w64}
 use mir.Val.{Fits}
 use borrow.Author.Tests.{not-true, not-false, le-ltb}
 use Rattle.desk.specs.Model.{turnOf}
-use Rattle.rows.proofs.Good.{sound-good}
-use Rattle.rows.proofs.Lists.{row-fits, rows-long, counts-long}
+use Rattle.ledger.proofs.Good.{sound-good}
+use Rattle.ledger.proofs.Lists.{row-fits, rows-long, counts-long}
 use Rattle.desk.proofs.Ways.{turn-goes-on, turn-halves}
 use Rattle.desk.proofs.calls.turn.Statement.{statement}
 use Rattle.desk.proofs.calls.turn.Tie as tie

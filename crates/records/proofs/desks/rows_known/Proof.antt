@@ -7,8 +7,8 @@ use borrow.Author.Needs.{needs}
 use borrow.Author.Tests.{le-leb, lt-leb}
 use lib.Dec.{leb}
 use Rattle.sheet.specs.Words.{wordOf}
-use Rattle.rows.specs.Search.{upto}
-use Rattle.rows.proofs.Search.{upto-fails, upto-more}
+use Rattle.ledger.specs.Search.{upto}
+use Rattle.ledger.proofs.Search.{upto-fails, upto-more}
 use Rattle.records.specs.Records.{rowStart, rowsKnown}
 use Rattle.records.proofs.desks.rows_known.Statement.{statement}
 use Rattle.records.proofs.desks.rows_known.Tie as tie

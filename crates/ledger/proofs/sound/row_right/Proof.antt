@@ -1,0 +1,48 @@
+-- `ledger::sound::row_right` meets its contract: each refusal denies one of the facts of `Right`, and past the last test they all hold. Assumes nothing.
+use mathlib.Core.Path.{sym}
+use Prim.Native.Nat.{suc-le-suc}
+use Rattle.ledger.proofs.Tests.{never, not-right, last-right}
+use Rattle.ledger.proofs.Lists.{count-fits}
+use Rattle.ledger.proofs.sound.row_right.Statement.{statement}
+use Rattle.ledger.proofs.sound.row_right.Tie as tie
+
+returns : tie.Need-returns
+returns c = sym (not-right _ _ (λ f. never _ _ (f .known) (c .if1 .taken)))
+
+mul-if2 : tie.Need-mul-if2
+mul-if2 c = count-fits _ (suc-le-suc (c .if1 .left))
+
+element-copy-out-if2 : tie.Need-element-copy-out-if2
+element-copy-out-if2 c = suc-le-suc (c .if1 .left)
+
+returns-2 : tie.Need-returns-2
+returns-2 c = sym (not-right _ _ (λ f. never _ _ (f .given) (c .if2 .taken)))
+
+returns-3 : tie.Need-returns-3
+returns-3 c = sym (not-right _ _ (λ f. never _ _ (c .if3 .taken) (f .region-low)))
+
+returns-4 : tie.Need-returns-4
+returns-4 c = sym (not-right _ _ (λ f. never _ _ (c .if4 .taken) (f .region-high)))
+
+returns-5 : tie.Need-returns-5
+returns-5 c = sym (not-right _ _ (λ f. never _ _ (c .if5 .taken) (f .kind-low)))
+
+returns-6 : tie.Need-returns-6
+returns-6 c = sym (not-right _ _ (λ f. never _ _ (c .if6 .taken) (f .kind-high)))
+
+returns-7 : tie.Need-returns-7
+returns-7 c = sym (last-right _ _ (suc-le-suc (c .before .before .before .before .before .before .before .before .before .before .before .before .if1 .left)) (c .before .before .before .before .before .before .before .before .before .if2 .left) (c .before .before .before .before .before .before .before .if3 .left) (c .before .before .before .before .before .if4 .left) (c .before .before .before .if5 .left) (c .before .if6 .left))
+
+pub row-right-spec : {M : Type 1} → statement M
+row-right-spec =
+    tie.close
+    (tie.spec
+    returns
+    mul-if2
+    element-copy-out-if2
+    returns-2
+    returns-3
+    returns-4
+    returns-5
+    returns-6
+    returns-7)

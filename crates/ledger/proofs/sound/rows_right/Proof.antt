@@ -1,0 +1,145 @@
+-- `ledger::sound::rows_right` meets its contract: what the pass has noted is what `Passed` says, and each row that comes next is one of its laws. Assumes nothing.
+use native.Mathlib.Omega.{arith}
+use borrow.Author.Needs.{needs}
+use mathlib.Core.Path.{sym, _∙_}
+use Prim.Native.Nat.{_-_}
+use borrow.Author.Tests.{not-true}
+use Rattle.ledger.proofs.Tests.{told-right}
+use Rattle.ledger.proofs.Lists.{row-fits, count-fits, row-is}
+use Rattle.ledger.proofs.Pass.{places-fit, place-fits, place-bytes, place-in, place-to, seen-fits, Passed, passed-none, passed-empty, passed-filled, passed-all, wrong-row, fifth-row, ticket-again}
+use Rattle.ledger.proofs.sound.rows_right.Statement.{statement}
+use Rattle.ledger.proofs.sound.rows_right.Tie as tie
+
+abbrev Inv-loop : tie.InvT-loop
+Inv-loop d counts tickets₀ seen₀ i₀ tickets seen i = Passed d i tickets seen
+
+abbrev μ-loop : tie.MeasureT-loop
+μ-loop d counts tickets₀ seen₀ i₀ tickets seen i = 32 - i
+
+loop-holds : tie.Need-loop-holds Inv-loop μ-loop
+loop-holds c = passed-none _
+
+mul-r : tie.Need-mul-r Inv-loop μ-loop
+mul-r c = row-fits _ (c .loop-test .taken)
+
+element-copy-out-r : tie.Need-element-copy-out-r Inv-loop μ-loop
+element-copy-out-r c = c .loop-test .taken
+
+add-i : tie.Need-add-i Inv-loop μ-loop
+add-i c = search needs
+
+row-right-requires : tie.Need-row-right-requires Inv-loop μ-loop
+row-right-requires c κs = tt
+
+returns : tie.Need-returns Inv-loop μ-loop
+returns c =
+    let l = c .before .before .before .before .before .before in
+    let s = l .before .before in
+    let h = c .before .before .before .before .before .loop-test .taken in
+    let same = row-is (s .args .t1) _ (s .good .0) (l .loop .i) _ h in
+    sym (wrong-row (s .args .t1) (l .loop .i) (l .loop .tickets) (l .loop .seen) (l .loop .inv) h _ same (c .before .before .before .if1 .taken) (sym (c .before .row-right .ensures) ∙ not-true _ (c .if2 .taken)))
+
+mul-n : tie.Need-mul-n Inv-loop μ-loop
+mul-n c = count-fits _ (told-right _ _ _ (c .before .row-right .ensures) (c .if2 .left) .known)
+
+array-read-n : tie.Need-array-read-n Inv-loop μ-loop
+array-read-n c = told-right _ _ _ (c .before .row-right .ensures) (c .if2 .left) .known
+
+returns-2 : tie.Need-returns-2 Inv-loop μ-loop
+returns-2 c =
+    let l = c .before .before .before .before .before .before .before in
+    let s = l .before .before in
+    let h = c .before .before .before .before .before .before .loop-test .taken in
+    let same = row-is (s .args .t1) _ (s .good .0) (l .loop .i) _ h in
+    sym (fifth-row (s .args .t1) (l .loop .i) (l .loop .tickets) (l .loop .seen) (l .loop .inv) h _ same (c .before .before .before .before .if1 .taken) ((told-right _ _ _ (c .before .before .row-right .ensures) (c .before .if2 .left)) .known) (c .if3 .taken))
+
+mul-noted : tie.Need-mul-noted Inv-loop μ-loop
+mul-noted c = places-fit _ (told-right _ _ _ (c .before .before .before .row-right .ensures) (c .before .before .if2 .left) .known)
+
+noted-requires : tie.Need-noted-requires Inv-loop μ-loop
+noted-requires c κs = place-to _ (told-right _ _ _ (c .before .before .before .row-right .ensures) (c .before .before .if2 .left) .known) _ (c .before .if3 .left)
+
+returns-3 : tie.Need-returns-3 Inv-loop μ-loop
+returns-3 c =
+    let l = c .before .before .before .before .before .before .before .before .before .before in
+    let s = l .before .before in
+    let h = c .before .before .before .before .before .before .before .before .before .loop-test .taken in
+    let same = row-is (s .args .t1) _ (s .good .0) (l .loop .i) _ h in
+    sym (ticket-again (s .args .t1) (l .loop .i) (l .loop .tickets) (l .loop .seen) (l .loop .inv) h _ same (c .before .before .before .before .before .before .before .if1 .taken) ((told-right _ _ _ (c .before .before .before .before .before .row-right .ensures) (c .before .before .before .before .if2 .left)) .known) _ (c .before .noted .ensures) (c .if4 .taken))
+
+mul-tickets : tie.Need-mul-tickets Inv-loop μ-loop
+mul-tickets c = places-fit _ (told-right _ _ _ (c .before .before .before .before .before .row-right .ensures) (c .before .before .before .before .if2 .left) .known)
+
+add-tickets : tie.Need-add-tickets Inv-loop μ-loop
+add-tickets c = place-fits _ (told-right _ _ _ (c .before .before .before .before .before .row-right .ensures) (c .before .before .before .before .if2 .left) .known) _ (c .before .before .before .if3 .left)
+
+mul-tickets-2 : tie.Need-mul-tickets-2 Inv-loop μ-loop
+mul-tickets-2 c = place-bytes _ (told-right _ _ _ (c .before .before .before .before .before .row-right .ensures) (c .before .before .before .before .if2 .left) .known) _ (c .before .before .before .if3 .left)
+
+array-write-tickets : tie.Need-array-write-tickets Inv-loop μ-loop
+array-write-tickets c = place-in _ (told-right _ _ _ (c .before .before .before .before .before .row-right .ensures) (c .before .before .before .before .if2 .left) .known) _ (c .before .before .before .if3 .left)
+
+add-seen : tie.Need-add-seen Inv-loop μ-loop
+add-seen c = seen-fits _ (c .before .before .before .if3 .left)
+
+mul-seen : tie.Need-mul-seen Inv-loop μ-loop
+mul-seen c = count-fits _ (told-right _ _ _ (c .before .before .before .before .before .row-right .ensures) (c .before .before .before .before .if2 .left) .known)
+
+array-write-seen : tie.Need-array-write-seen Inv-loop μ-loop
+array-write-seen c = told-right _ _ _ (c .before .before .before .before .before .row-right .ensures) (c .before .before .before .before .if2 .left) .known
+
+loop-less : tie.Need-loop-less Inv-loop μ-loop
+loop-less c = omega arith
+
+loop-again : tie.Need-loop-again Inv-loop μ-loop
+loop-again c =
+    let l = c .before .before .before .before .before .before .before .before .before .before in
+    let s = l .before .before in
+    let h = c .before .before .before .before .before .before .before .before .before .loop-test .taken in
+    let same = row-is (s .args .t1) _ (s .good .0) (l .loop .i) _ h in
+    passed-filled (s .args .t1) (l .loop .i) (l .loop .tickets) (l .loop .seen) (l .loop .inv) h _ same (c .before .before .before .before .before .before .before .if1 .taken) (told-right _ _ _ (c .before .before .before .before .before .row-right .ensures) (c .before .before .before .before .if2 .left)) (c .before .before .before .if3 .left) _ (c .before .noted .ensures) (c .if4 .left)
+
+loop-less-2 : tie.Need-loop-less-2 Inv-loop μ-loop
+loop-less-2 c = omega arith
+
+loop-again-2 : tie.Need-loop-again-2 Inv-loop μ-loop
+loop-again-2 c =
+    let l = c .before .before .before in
+    let s = l .before .before in
+    let h = c .before .before .loop-test .taken in
+    let same = row-is (s .args .t1) _ (s .good .0) (l .loop .i) _ h in
+    passed-empty (s .args .t1) (l .loop .i) (l .loop .tickets) (l .loop .seen) (l .loop .inv) h _ same (c .if1 .left)
+
+returns-4 : tie.Need-returns-4 Inv-loop μ-loop
+returns-4 c = let l = c .before in sym (passed-all _ _ _ _ (l .loop .inv) (c .loop-test .left))
+
+pub rows-right-spec : {M : Type 1} → statement M
+rows-right-spec =
+    tie.close
+    (tie.spec
+    Inv-loop
+    μ-loop
+    loop-holds
+    mul-r
+    element-copy-out-r
+    add-i
+    row-right-requires
+    returns
+    mul-n
+    array-read-n
+    returns-2
+    mul-noted
+    noted-requires
+    returns-3
+    mul-tickets
+    add-tickets
+    mul-tickets-2
+    array-write-tickets
+    add-seen
+    mul-seen
+    array-write-seen
+    loop-less
+    loop-again
+    loop-less-2
+    loop-again-2
+    returns-4)
