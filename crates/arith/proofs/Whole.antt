@@ -3,6 +3,7 @@ use mathlib.Core.Path.{_≡_, refl, ap, _∙_}
 use mathlib.Core.Bool.{Bool, true, false, not, cond}
 use Prim.Native.Nat.{ℕ, zero, suc, _+_, _-_, _*_, _/_, _%_, _^_, _≤_, _<_}
 use native.Mathlib.Nat.{le-antisymm, lt-of-not-le, lt-of-le-of-lt, not-le-of-lt, le-of-lt, mul-le-mul, mul-le-mul-left, mul-lt-mul-of-pos-right, mul-add, add-mul, mul-comm, mul-right-comm, mul-mul-mul-comm, pow-suc, div-lt-iff-lt-mul}
+use native.Mathlib.Numerals.{add-one}
 use native.Mathlib.Omega.{arith}
 use lib.Dec.{T, leb, leb→le, nleb→lt}
 use borrow.Author.Tests.{le-leb, lt-leb}
@@ -68,6 +69,15 @@ near-up n q rem h e l g = near-by n q h (floor-of n q rem e l) ∙ rw (le-leb ((
 
 pub near-down : (n q rem : ℕ) → n < 4 ^ 53 → n ≡ q * q + rem → rem ≤ 2 * q → rem ≤ q → nearRoot n ≡ q
 near-down n q rem h e l g = near-by n q h (floor-of n q rem e l) ∙ rw (lt-leb ((2 * q + 1) * (2 * q + 1)) (4 * n) (omega (arith, square-odd {y = 2 * q + 1} q (omega arith))))
+
+-- the nearest number r by its own square: r * r - r < n and n ≤ r * r + r
+pub near-at : (n r : ℕ) → n < 4 ^ 53 → r * r < n + r → n ≤ r * r + r → nearRoot n ≡ r
+near-at n zero h lo hi = absurd (omega arith)
+near-at n (suc p) h lo hi = go (leb (suc p * suc p) n) (leb→le _ n) (nleb→lt _ n)
+  where
+    go : (b : Bool) → (T b → suc p * suc p ≤ n) → (T (not b) → n < suc p * suc p) → nearRoot n ≡ suc p
+    go true up down = near-down n (suc p) (n - suc p * suc p) h (omega (arith, up tt)) (omega arith) (omega arith)
+    go false up down = near-up n p (n - p * p) h (omega (arith, square-suc p)) (omega (arith, down tt, square-suc p)) (omega (arith, square-suc p)) ∙ add-one p
 
 -- where the root is from 2 ^ 52 up to 2 ^ 53 - 1/2, the nearest number has 53 binary digits
 pub near-size : (n : ℕ) → 4 ^ 52 ≤ n → 4 * n < (2 ^ 54 - 1) * (2 ^ 54 - 1) → (2 ^ 52 ≤ nearRoot n) × (nearRoot n < 2 ^ 53)

@@ -29,86 +29,65 @@ fn near_root(m: u64) -> u64
     if q < rem { q + 1 } else { q }
 }
 
-// The same where q is the whole part of that root, and 0 where it is not: m · 4^26 - q² is worked
-// out in three steps that fit 64 bits. Any q may be given, so how it was guessed owes no proof.
+// The same where q is that number or next to it, and 0 where it is not. What q² leaves of m · 4^26 is
+// worked out in three steps that fit 64 bits; q² may be the larger, so the first step is lent
+// 8 · 4^26, which the last takes off. Any q may be given, so how it was guessed owes no proof.
 fn settled(m: u64, q: u64) -> u64
     requires { ⌜ m < 2 ^ 54 ⌝ }
     ensures { λ r. ⌜ ((r ≡ 0 → ⊥) → r ≡ nearRoot (m * 4 ^ 26)) ⌝ }
 {
     let h = q / 0x800_0000;
     let l = q % 0x800_0000;
-    if h >= 0x400_0000 {
+    if h >= 0x800_0000 {
         return 0;
     }
-    let hh = h * h * 4;
-    if m < hh {
-        return 0;
-    }
-    let a = m - hh;
+    let a = std::num::wrapping_sub_u64(m + 8, h * h * 4);
     if a >= 0x80_0000_0000 {
         return 0;
     }
-    let hl = h * l;
-    let w = a * 0x100_0000;
-    if w < hl {
-        return 0;
-    }
-    let b = w - hl;
+    let b = std::num::wrapping_sub_u64(a * 0x100_0000, h * l);
     if b >= 0x8_0000_0000 {
         return 0;
     }
-    let ll = l * l;
-    let c = b * 0x1000_0000;
-    if c < ll {
-        return 0;
+    // m · 4^26 - q² + q - 1, where it is below 0 with 2^64 added
+    let t = std::num::wrapping_sub_u64(b * 0x1000_0000 + q, l * l + 0x80_0000_0000_0001);
+    if t < q * 2 {
+        return q;
     }
-    let rem = c - ll;
-    if q * 2 < rem {
-        return 0;
+    if t < q * 4 + 2 {
+        return q + 1;
     }
-    if q < rem { q + 1 } else { q }
+    if u64::MAX - t + 2 < q * 2 { q - 1 } else { 0 }
 }
 
-// A guess at the whole part of the root of m · 4^26, by four steps of Newton's on m / 2^52. Nothing
-// is promised of it.
-fn guess(m: u64) -> u64
-    requires { ⌜ (2 ^ 52 ≤ m) × (m < 2 ^ 54) ⌝ }
+// A guess at the 53 binary digits of the root of a positive finite number, from its bits, by four
+// steps of Newton's: the last leaves twice the root, whose digits are the same. Nothing is promised
+// of it.
+fn guess(b: u64) -> u64
+    requires { ⌜ b < 0x7ff0_0000_0000_0000 ⌝ }
 {
-    let b = if m < 0x20_0000_0000_0000 {
-        0x3fe0_0000_0000_0000 + m
-    } else {
-        0x3ff0_0000_0000_0000 + m / 2
-    };
-    let v = f64::from_bits(b);
+    let x = f64::from_bits(b);
     let y = f64::from_bits(0x1ff7_a3be_a91d_9b1b + b / 2);
-    let y = 0.5 * (y + v / y);
-    let y = 0.5 * (y + v / y);
-    let y = 0.5 * (y + v / y);
-    let y = 0.5 * (y + v / y) * 4503599627370496.0;
-    if y > -1.0 {
-        if y < 18446744073709551616.0 {
-            return std::num::truncating_f64_to_u64(y);
-        }
-    }
-    1
+    let y = 0.5 * (y + x / y);
+    let y = 0.5 * (y + x / y);
+    let y = 0.5 * (y + x / y);
+    let y = y + x / y;
+    let digits = if 0.0 < y {
+        f64::to_bits(y) % 0x10_0000_0000_0000
+    } else {
+        0
+    };
+    0x10_0000_0000_0000 + digits
 }
 
-// The same as near_root: the guess or the number below it is the whole part, or else the root is
-// found digit by digit.
-fn quick_root(m: u64) -> u64
-    requires { ⌜ (2 ^ 52 ≤ m) × (m < 2 ^ 54) ⌝ }
+// The same as near_root: settled from the guess q, or else found digit by digit.
+fn quick_root(m: u64, q: u64) -> u64
+    requires { ⌜ m < 2 ^ 54 ⌝ }
     ensures { λ r. ⌜ r ≡ nearRoot (m * 4 ^ 26) ⌝ }
 {
-    let q = guess(m);
     let r = settled(m, q);
     if r != 0 {
         return r;
-    }
-    if q != 0 {
-        let r = settled(m, q - 1);
-        if r != 0 {
-            return r;
-        }
     }
     near_root(m)
 }
@@ -128,7 +107,7 @@ fn root_bits(b: u64) -> u64
         m = m * 4;
         d = d - 1;
     }
-    (485 + d) * 0x10_0000_0000_0000 + quick_root(m)
+    (485 + d) * 0x10_0000_0000_0000 + quick_root(m, guess(b))
 }
 
 // The f64 nearest the root of x. Either zero and plus infinity give themselves; what is negative,

@@ -1,45 +1,31 @@
--- `arith::roots::guess` is safe: what it makes of bits is no NaN, and it cuts only a float that fits. Assumes nothing.
-use mathlib.Core.Path.{sym, subst}
+-- `arith::roots::guess` is safe: what it makes of bits is no NaN, nor is what it takes the bits of. Assumes nothing.
 use mathlib.Core.Logic.{⊎-elim}
-use Prim.Native.Nat.{_+_, _/_, _≤_}
+use Prim.Native.Nat.{_+_, _/_}
 use native.Mathlib.Omega.{arith}
-use lib.Dec.{T}
-use lib.Ieee.{ofBits, neg}
+use lib.Ieee.{ofBits}
 use borrow.Author.Needs.{needs}
-use Rattle.arith.proofs.Signs.{no-nan-bits}
+use Rattle.arith.proofs.Signs.{no-nan, no-nan-bits}
 use Rattle.arith.proofs.roots.guess.Statement.{statement}
 use Rattle.arith.proofs.roots.guess.Tie as tie
 
-add-b : tie.Need-add-b
-add-b c = search needs
-
-add-b-2 : tie.Need-add-b-2
-add-b-2 c = search needs
-
-low : (c : tie.Joined1) → c .if1 .b ≤ 0x4010_0000_0000_0000
-low c = ⊎-elim (λ w. omega arith) (λ w. omega arith) (c .if1 .came)
-
-float-from-bits-v : tie.Need-float-from-bits-v
-float-from-bits-v c = no-nan-bits (c .if1 .b) (omega (arith, low c))
+float-from-bits-x : tie.Need-float-from-bits-x
+float-from-bits-x c = no-nan-bits (c .args .b) (omega arith)
 
 add-y : tie.Need-add-y
 add-y c = search needs
 
 float-from-bits-y : tie.Need-float-from-bits-y
-float-from-bits-y c = no-nan-bits (0x1ff7_a3be_a91d_9b1b + c .before .if1 .b / 2) (omega (arith, low (c .before)))
+float-from-bits-y c = no-nan-bits (0x1ff7_a3be_a91d_9b1b + c .args .b / 2) (omega arith)
 
-truncating-f64-to-u64-requires : tie.Need-truncating-f64-to-u64-requires
-unfolding ofBits neg
-truncating-f64-to-u64-requires c κs = (subst T (sym (c .before .if2 .taken)) tt, subst T (sym (c .if3 .taken)) tt)
+float-to-bits-digits : tie.Need-float-to-bits-digits
+unfolding ofBits
+float-to-bits-digits c = no-nan _ (c .if1 .taken)
+
+add-result : tie.Need-add-result
+add-result c = ⊎-elim (λ w. omega arith) (λ w. omega arith) (c .before .if1 .came)
 
 returns : tie.Need-returns
 returns c = search needs
 
-returns-2 : tie.Need-returns-2
-returns-2 c = search needs
-
-returns-3 : tie.Need-returns-3
-returns-3 c = search needs
-
 pub guess-spec : {M : Type 1} → statement M
-guess-spec = tie.close (tie.spec add-b add-b-2 float-from-bits-v add-y float-from-bits-y truncating-f64-to-u64-requires returns returns-2 returns-3)
+guess-spec = tie.close (tie.spec float-from-bits-x add-y float-from-bits-y float-to-bits-digits add-result returns)

@@ -112,30 +112,33 @@ add-result c = omega arith
 mul-result : tie.Need-mul-result Inv-loop μ-loop
 mul-result c = omega arith
 
+guess-requires : tie.Need-guess-requires Inv-loop μ-loop
+guess-requires c κs = omega arith
+
 quick-root-requires : tie.Need-quick-root-requires Inv-loop μ-loop
 quick-root-requires c κs = omega arith
 
 sized : (c : tie.After-quick-root Inv-loop μ-loop) → (2 ^ 52 ≤ c .quick-root .result) × (c .quick-root .result < 2 ^ 53)
-sized c = rw (c .quick-root .ensures) (near-size (c .before .before .loop .m * 4 ^ 26) (omega arith) (omega arith))
+sized c = rw (c .quick-root .ensures) (near-size (c .before .before .before .loop .m * 4 ^ 26) (omega arith) (omega arith))
 
 add-result-2 : tie.Need-add-result-2 Inv-loop μ-loop
 add-result-2 c = omega (arith, sized c)
 
 returns : tie.Need-returns Inv-loop μ-loop
 returns c =
-    let b = c .before .before .before .before .before .args .b in
-    let j = c .before .before .before .before in
+    let b = c .before .before .before .before .before .before .args .b in
+    let j = c .before .before .before .before .before in
     let k = j .if1 .k in
     let f = b - k * 2 ^ 52 in
-    let l = c .before .before .loop in
+    let l = c .before .before .before .loop in
     let r = c .quick-root .result in (
       omega (arith, sized c),
       read ((485 + l .d) * 2 ^ 52 + r) (485 + l .d) r (omega (arith, sized c)) (omega (arith, sized c)) (omega arith)
           ∙ ap (λ z. odd 53 false z (485 + l .d) 1074) (c .quick-root .ensures)
-          ∙ sym (units-are (f * 2 ^ k) (l .m) (l .d) (l .inv .same) (c .before .loop-test .left) (omega arith))
+          ∙ sym (units-are (f * 2 ^ k) (l .m) (l .d) (l .inv .same) (c .before .before .loop-test .left) (omega arith))
           ∙ sym (by-units (odd 53 false f k 1074) (f * 2 ^ k) (odd-sign 53 false f k 1074) (l .inv .some))
-          ∙ ap rootOf (sym (read b k f (omega (arith, c .before .before .before .before .before .pre)) (field j) refl)),
+          ∙ ap rootOf (sym (read b k f (omega (arith, c .before .before .before .before .before .before .pre)) (field j) refl)),
     )
 
 pub root-bits-spec : {M : Type 1} → statement M
-root-bits-spec = tie.close (tie.spec Inv-loop μ-loop sub-k mul-f sub-f add-m mul-m add-d loop-holds mul-m-2 sub-d loop-less loop-again add-result mul-result quick-root-requires add-result-2 returns)
+root-bits-spec = tie.close (tie.spec Inv-loop μ-loop sub-k mul-f sub-f add-m mul-m add-d loop-holds mul-m-2 sub-d loop-less loop-again add-result mul-result guess-requires quick-root-requires add-result-2 returns)

@@ -1,10 +1,10 @@
--- `arith::roots::settled` meets its contract. Assumes nothing.
-use mathlib.Core.Path.{sym}
-use Prim.Native.Nat.{ℕ, _-_, _*_, _/_, _%_, _^_, _≤_, _<_}
+-- `arith::roots::settled` meets its contract: t is m * 4 ^ 26 - q * q + q - 1, with 2 ^ 64 added where that is below 0, and `near-at` reads the nearest number from it. Assumes nothing.
+use mathlib.Core.Path.{_≡_, sym, ap, _∙_}
+use Prim.Native.Nat.{ℕ, _+_, _-_, _*_, _/_, _%_, _^_, _≤_, _<_}
 use native.Mathlib.Nat.{mul-le-mul}
 use native.Mathlib.Omega.{arith}
 use borrow.Author.Needs.{needs}
-use Rattle.arith.proofs.Whole.{square-split, near-up, near-down}
+use Rattle.arith.proofs.Whole.{square-split, square-suc, near-at}
 use Rattle.arith.proofs.roots.settled.Statement.{statement}
 use Rattle.arith.proofs.roots.settled.Tie as tie
 
@@ -12,64 +12,116 @@ use Rattle.arith.proofs.roots.settled.Tie as tie
 short : (a b : ℕ) → a < 2 ^ 27 → b < 2 ^ 27 → a * b ≤ 2 ^ 54
 short a b h k = mul-le-mul {n₂ = 2 ^ 27} {m₂ = 2 ^ 27} (omega arith) (omega arith)
 
--- what is left of m * 4 ^ 26, by the code's three steps
-abbrev left : ℕ → ℕ → ℕ
-left m q = ((m - q / 2 ^ 27 * (q / 2 ^ 27) * 4) * 2 ^ 24 - q / 2 ^ 27 * (q % 2 ^ 27)) * 2 ^ 28 - q % 2 ^ 27 * (q % 2 ^ 27)
+-- what b of the code is of m and q, and a bound for the square of the low digits
+abbrev Lent : ℕ → ℕ → ℕ → Type 0
+Lent m q b = (b * 2 ^ 28 + q * q ≡ m * 4 ^ 26 + 2 ^ 55 + q % 2 ^ 27 * (q % 2 ^ 27)) × (q % 2 ^ 27 * (q % 2 ^ 27) ≤ 2 ^ 54)
+
+-- neither of the two steps that lead to b wraps, as what each leaves is small
+lent : (m q a b : ℕ) → m < 2 ^ 54 → q < 2 ^ 54 → a < 2 ^ 39 → b < 2 ^ 35 → (a + q / 2 ^ 27 * (q / 2 ^ 27) * 4) % 2 ^ 64 ≡ m + 8 → (b + q / 2 ^ 27 * (q % 2 ^ 27)) % 2 ^ 64 ≡ a * 2 ^ 24 → Lent m q b
+lent m q a b hm hq ha hb ea eb =
+    let first : a + q / 2 ^ 27 * (q / 2 ^ 27) * 4 ≡ m + 8 = omega (arith, short (q / 2 ^ 27) (q / 2 ^ 27) (omega arith) (omega arith)) in
+    let second : b + q / 2 ^ 27 * (q % 2 ^ 27) ≡ a * 2 ^ 24 = omega (arith, short (q / 2 ^ 27) (q % 2 ^ 27) (omega arith) (omega arith)) in
+    (omega (arith, square-split q), short (q % 2 ^ 27) (q % 2 ^ 27) (omega arith) (omega arith))
+
+-- the square of the number below q
+square-less : (q : ℕ) → 0 < q → q * q ≡ (q - 1) * (q - 1) + 2 * (q - 1) + 1
+square-less q h =
+    let e : q ≡ q - 1 + 1 = omega arith in
+    ap (λ z. z * z) e ∙ square-suc (q - 1)
+
+left : (c : tie.After-wrapping-sub-u643) → Lent (c .before .before .before .before .before .before .args .m) (c .before .before .before .before .before .before .args .q) (c .before .before .wrapping-sub-u642 .result)
+left c =
+    let x = c .before .before .before .before .before .before .args in
+    let a = c .before .before .before .before .wrapping-sub-u64 in
+    let b = c .before .before .wrapping-sub-u642 in
+    lent (x .m) (x .q) (a .result) (b .result) (omega arith) (omega arith) (omega arith) (omega arith) (a .ensures) (b .ensures)
 
 returns : tie.Need-returns
 returns c = search needs
 
-mul-hh : tie.Need-mul-hh
-mul-hh c = let q = c .before .args .q in omega (arith, short (q / 2 ^ 27) (q / 2 ^ 27) (omega arith) (omega arith))
+add-wrapping-sub-u64 : tie.Need-add-wrapping-sub-u64
+add-wrapping-sub-u64 c = search needs
 
-mul-hh-2 : tie.Need-mul-hh-2
-mul-hh-2 c = let q = c .before .args .q in omega (arith, short (q / 2 ^ 27) (q / 2 ^ 27) (omega arith) (omega arith))
+mul-wrapping-sub-u64 : tie.Need-mul-wrapping-sub-u64
+mul-wrapping-sub-u64 c = let q = c .before .args .q in omega (arith, short (q / 2 ^ 27) (q / 2 ^ 27) (omega arith) (omega arith))
+
+mul-wrapping-sub-u64-2 : tie.Need-mul-wrapping-sub-u64-2
+mul-wrapping-sub-u64-2 c = let q = c .before .args .q in omega (arith, short (q / 2 ^ 27) (q / 2 ^ 27) (omega arith) (omega arith))
+
+wrapping-sub-u64-requires : tie.Need-wrapping-sub-u64-requires
+wrapping-sub-u64-requires c κs = search needs
 
 returns-2 : tie.Need-returns-2
 returns-2 c = search needs
 
+mul-wrapping-sub-u64-3 : tie.Need-mul-wrapping-sub-u64-3
+mul-wrapping-sub-u64-3 c = search needs
+
+mul-wrapping-sub-u64-4 : tie.Need-mul-wrapping-sub-u64-4
+mul-wrapping-sub-u64-4 c = let q = c .before .before .before .args .q in omega (arith, short (q / 2 ^ 27) (q % 2 ^ 27) (omega arith) (omega arith))
+
+wrapping-sub-u64-requires-2 : tie.Need-wrapping-sub-u64-requires-2
+wrapping-sub-u64-requires-2 c κs = search needs
+
 returns-3 : tie.Need-returns-3
 returns-3 c = search needs
 
-mul-hl : tie.Need-mul-hl
-mul-hl c = let q = c .before .before .before .args .q in omega (arith, short (q / 2 ^ 27) (q % 2 ^ 27) (omega arith) (omega arith))
+mul-wrapping-sub-u64-5 : tie.Need-mul-wrapping-sub-u64-5
+mul-wrapping-sub-u64-5 c = search needs
 
-mul-w : tie.Need-mul-w
-mul-w c = search needs
+add-wrapping-sub-u64-2 : tie.Need-add-wrapping-sub-u64-2
+add-wrapping-sub-u64-2 c = search needs
+
+mul-wrapping-sub-u64-6 : tie.Need-mul-wrapping-sub-u64-6
+mul-wrapping-sub-u64-6 c = let q = c .before .before .before .before .before .args .q in omega (arith, short (q % 2 ^ 27) (q % 2 ^ 27) (omega arith) (omega arith))
+
+add-wrapping-sub-u64-3 : tie.Need-add-wrapping-sub-u64-3
+add-wrapping-sub-u64-3 c = let q = c .before .before .before .before .before .args .q in omega (arith, short (q % 2 ^ 27) (q % 2 ^ 27) (omega arith) (omega arith))
+
+wrapping-sub-u64-requires-3 : tie.Need-wrapping-sub-u64-requires-3
+wrapping-sub-u64-requires-3 c κs = search needs
+
+mul-if4 : tie.Need-mul-if4
+mul-if4 c = search needs
 
 returns-4 : tie.Need-returns-4
-returns-4 c = search needs
+returns-4 c =
+    let x = c .before .before .before .before .before .before .before .args in
+    λ _. sym (near-at (x .m * 4 ^ 26) (x .q) (omega arith) (omega (arith, left (c .before))) (omega (arith, left (c .before))))
 
-returns-5 : tie.Need-returns-5
-returns-5 c = search needs
+mul-if5 : tie.Need-mul-if5
+mul-if5 c = search needs
 
-mul-ll : tie.Need-mul-ll
-mul-ll c = let q = c .before .before .before .before .before .args .q in omega (arith, short (q % 2 ^ 27) (q % 2 ^ 27) (omega arith) (omega arith))
-
-mul-c : tie.Need-mul-c
-mul-c c = search needs
-
-returns-6 : tie.Need-returns-6
-returns-6 c = search needs
-
-mul-if7 : tie.Need-mul-if7
-mul-if7 c = search needs
-
-returns-7 : tie.Need-returns-7
-returns-7 c = search needs
+add-if5 : tie.Need-add-if5
+add-if5 c = search needs
 
 add-result : tie.Need-add-result
 add-result c = search needs
 
-returns-8 : tie.Need-returns-8
-returns-8 c =
-    let a = c .before .before .before .before .before .before .before .before .args in
-    λ _. sym (near-up (a .m * 4 ^ 26) (a .q) (left (a .m) (a .q)) (omega arith) (omega (arith, square-split (a .q))) (omega arith) (omega arith))
+returns-5 : tie.Need-returns-5
+returns-5 c =
+    let x = c .before .before .before .before .before .before .before .before .args in
+    λ _. sym (near-at (x .m * 4 ^ 26) (x .q + 1) (omega arith) (omega (arith, left (c .before .before), square-suc (x .q))) (omega (arith, left (c .before .before), square-suc (x .q))))
 
-returns-9 : tie.Need-returns-9
-returns-9 c =
-    let a = c .before .before .before .before .before .before .before .before .args in
-    λ _. sym (near-down (a .m * 4 ^ 26) (a .q) (left (a .m) (a .q)) (omega arith) (omega (arith, square-split (a .q))) (omega arith) (omega arith))
+sub-if6 : tie.Need-sub-if6
+sub-if6 c = search needs
+
+add-if6 : tie.Need-add-if6
+add-if6 c = search needs
+
+mul-if6 : tie.Need-mul-if6
+mul-if6 c = search needs
+
+sub-result : tie.Need-sub-result
+sub-result c = search needs
+
+returns-6 : tie.Need-returns-6
+returns-6 c =
+    let x = c .before .before .before .before .before .before .before .before .before .args in
+    λ _. sym (near-at (x .m * 4 ^ 26) (x .q - 1) (omega arith) (omega (arith, left (c .before .before .before), square-less (x .q) (omega arith))) (omega (arith, left (c .before .before .before), square-less (x .q) (omega arith))))
+
+returns-7 : tie.Need-returns-7
+returns-7 c = search needs
 
 pub settled-spec : {M : Type 1} → statement M
-settled-spec = tie.close (tie.spec returns mul-hh mul-hh-2 returns-2 returns-3 mul-hl mul-w returns-4 returns-5 mul-ll mul-c returns-6 mul-if7 returns-7 add-result returns-8 returns-9)
+settled-spec = tie.close (tie.spec returns add-wrapping-sub-u64 mul-wrapping-sub-u64 mul-wrapping-sub-u64-2 wrapping-sub-u64-requires returns-2 mul-wrapping-sub-u64-3 mul-wrapping-sub-u64-4 wrapping-sub-u64-requires-2 returns-3 mul-wrapping-sub-u64-5 add-wrapping-sub-u64-2 mul-wrapping-sub-u64-6 add-wrapping-sub-u64-3 wrapping-sub-u64-requires-3 mul-if4 returns-4 mul-if5 add-if5 add-result returns-5 sub-if6 add-if6 mul-if6 sub-result returns-6 returns-7)
