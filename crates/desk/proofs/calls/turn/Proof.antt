@@ -42,7 +42,7 @@ places-on-requires c κs = tt
 
 returns-2 : tie.Need-returns-2
 unfolding turnOf
-returns-2 c = rw (sym (c .before .before .before .is-sound .ensures) ∙ not-false _ (c .before .before .if1 .left), ← c .before .places-on .ensures, le-ltb _ _ (c .if2 .taken))
+returns-2 c = rw (sym (c .before .before .before .is-sound .ensures) ∙ not-false _ (c .before .before .if1 .left), ← c .before .places-on .ensures, le-ltb _ 32 (c .if2 .taken))
 
 add-i : tie.Need-add-i
 add-i c = sum-fits _ _ (points (c .before .before)) (c .if2 .left)
