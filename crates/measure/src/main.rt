@@ -38,10 +38,12 @@ fn derived(d: Derivative) -> f64 {
     }
 }
 
-// The derivative of v, u, h or s by g or f at constant p or T: which, the bits of x decide.
+// The derivative of v or u by g or f at constant p or T: x decides which.
 fn some_quotient(kind: u64, x: f64, y: f64) -> Derivative {
-    let bits = f64::to_bits(x);
-    sums::quotient(kind, x, y, 3 + bits % 4, 7 + bits / 4 % 2, 1 + bits / 8 % 2)
+    let z = if x < 1.0 { 3 } else { 4 };
+    let by = if x < 2.0 { 7 } else { 8 };
+    let constant = if x < 0.5 { 1 } else { 2 };
+    sums::quotient(kind, x, y, z, by, constant)
 }
 
 // The value of one query at x. Of a derivative, the three properties are part of what it is.
