@@ -1,5 +1,4 @@
-// A desk in words for people: its pointer and counts on one line, and a line for each row that is filled
-// (specs/Lines.antt).
+// The lines of a desk: its pointer and counts, and a line for each row that is filled (specs/Lines.antt).
 use ledger::Desk;
 use ledger::Row;
 use text::Cell;
