@@ -1,13 +1,13 @@
 // The check values of 002, table by table: regions 1, 2 and 5, the saturation line, the boundaries
 // B23 and 2bc, and T(p,h) and T(p,s). Tables A24 and A28 have lost the exponents of their powers of
-// ten: in region 2 only 10^4 fits digits that begin with 1, and only 10^3 all others. A table of three
-// states or three subregions is told a state or a subregion at a time.
+// ten: in region 2 only 10^4 fits digits that begin with 1, and only 10^3 all others.
 use crate::tally::Tally;
 use backward::t1_ph;
 use backward::t1_ps;
 use backward::t2_ph;
 use backward::t2_ps;
 use liquid::Region1;
+use properties::State;
 use saturation::p_2bc;
 use saturation::p_b23;
 use saturation::ps;
@@ -31,6 +31,40 @@ pub fn tables(tally: Tally) -> Tally {
     a29(tally)
 }
 
+// The six quantities of a state of a table, in the table's order: v, h, u, s, cp, w.
+fn six(tally: Tally, table: &[u8], point: &[u8], x: State, digits: [u64; 6], k: [i8; 6]) -> Tally {
+    let tally = v_h_u(tally, table, point, x, digits, k);
+    s_cp_w(tally, table, point, x, digits, k)
+}
+
+fn v_h_u(
+    tally: Tally,
+    table: &[u8],
+    point: &[u8],
+    x: State,
+    digits: [u64; 6],
+    k: [i8; 6],
+) -> Tally {
+    tally
+        .part(table, b"v", point, x.v, digits[0], k[0])
+        .part(table, b"h", point, x.h, digits[1], k[1])
+        .part(table, b"u", point, x.u, digits[2], k[2])
+}
+
+fn s_cp_w(
+    tally: Tally,
+    table: &[u8],
+    point: &[u8],
+    x: State,
+    digits: [u64; 6],
+    k: [i8; 6],
+) -> Tally {
+    tally
+        .part(table, b"s", point, x.s, digits[3], k[3])
+        .part(table, b"cp", point, x.cp, digits[4], k[4])
+        .part(table, b"w", point, x.w, digits[5], k[5])
+}
+
 // Table A1, footnote: the boundary B23, both ways.
 fn a1(tally: Tally) -> Tally {
     tally
@@ -45,82 +79,100 @@ fn a1(tally: Tally) -> Tally {
 
 // Table A3: region 1.
 fn a3(tally: Tally) -> Tally {
-    let tally = a3_first(tally);
-    let tally = a3_second(tally);
-    a3_third(tally)
-}
-
-fn a3_first(tally: Tally) -> Tally {
-    let state = Region1::state(3.0, 300.0);
-    tally
-        .line(b"002-A3 v(3,300)", state.v, 100_215_168, -2)
-        .line(b"002-A3 h(3,300)", state.h, 115_331_273, 3)
-        .line(b"002-A3 u(3,300)", state.u, 112_324_818, 3)
-        .line(b"002-A3 s(3,300)", state.s, 392_294_792, 0)
-        .line(b"002-A3 cp(3,300)", state.cp, 417_301_218, 1)
-        .line(b"002-A3 w(3,300)", state.w, 150_773_921, 4)
-}
-
-fn a3_second(tally: Tally) -> Tally {
-    let state = Region1::state(80.0, 300.0);
-    tally
-        .line(b"002-A3 v(80,300)", state.v, 971_180_894, -3)
-        .line(b"002-A3 h(80,300)", state.h, 184_142_828, 3)
-        .line(b"002-A3 u(80,300)", state.u, 106_448_356, 3)
-        .line(b"002-A3 s(80,300)", state.s, 368_563_852, 0)
-        .line(b"002-A3 cp(80,300)", state.cp, 401_008_987, 1)
-        .line(b"002-A3 w(80,300)", state.w, 163_469_054, 4)
-}
-
-fn a3_third(tally: Tally) -> Tally {
-    let state = Region1::state(3.0, 500.0);
-    tally
-        .line(b"002-A3 v(3,500)", state.v, 120_241_800, -2)
-        .line(b"002-A3 h(3,500)", state.h, 975_542_239, 3)
-        .line(b"002-A3 u(3,500)", state.u, 971_934_985, 3)
-        .line(b"002-A3 s(3,500)", state.s, 258_041_912, 1)
-        .line(b"002-A3 cp(3,500)", state.cp, 465_580_682, 1)
-        .line(b"002-A3 w(3,500)", state.w, 124_071_337, 4)
+    let tally = six(
+        tally,
+        b"002-A3 ",
+        b"(3,300)",
+        Region1::state(3.0, 300.0),
+        [
+            100_215_168,
+            115_331_273,
+            112_324_818,
+            392_294_792,
+            417_301_218,
+            150_773_921,
+        ],
+        [-2, 3, 3, 0, 1, 4],
+    );
+    let tally = six(
+        tally,
+        b"002-A3 ",
+        b"(80,300)",
+        Region1::state(80.0, 300.0),
+        [
+            971_180_894,
+            184_142_828,
+            106_448_356,
+            368_563_852,
+            401_008_987,
+            163_469_054,
+        ],
+        [-3, 3, 3, 0, 1, 4],
+    );
+    six(
+        tally,
+        b"002-A3 ",
+        b"(3,500)",
+        Region1::state(3.0, 500.0),
+        [
+            120_241_800,
+            975_542_239,
+            971_934_985,
+            258_041_912,
+            465_580_682,
+            124_071_337,
+        ],
+        [-2, 3, 3, 1, 1, 4],
+    )
 }
 
 // Table A6: region 2.
 fn a6(tally: Tally) -> Tally {
-    let tally = a6_first(tally);
-    let tally = a6_second(tally);
-    a6_third(tally)
-}
-
-fn a6_first(tally: Tally) -> Tally {
-    let state = Region2::state(0.0035, 300.0);
-    tally
-        .line(b"002-A6 v(0.0035,300)", state.v, 394_913_866, 2)
-        .line(b"002-A6 h(0.0035,300)", state.h, 254_991_145, 4)
-        .line(b"002-A6 u(0.0035,300)", state.u, 241_169_160, 4)
-        .line(b"002-A6 s(0.0035,300)", state.s, 852_238_967, 1)
-        .line(b"002-A6 cp(0.0035,300)", state.cp, 191_300_162, 1)
-        .line(b"002-A6 w(0.0035,300)", state.w, 427_920_172, 3)
-}
-
-fn a6_second(tally: Tally) -> Tally {
-    let state = Region2::state(0.0035, 700.0);
-    tally
-        .line(b"002-A6 v(0.0035,700)", state.v, 923_015_898, 2)
-        .line(b"002-A6 h(0.0035,700)", state.h, 333_568_375, 4)
-        .line(b"002-A6 u(0.0035,700)", state.u, 301_262_819, 4)
-        .line(b"002-A6 s(0.0035,700)", state.s, 101_749_996, 2)
-        .line(b"002-A6 cp(0.0035,700)", state.cp, 208_141_274, 1)
-        .line(b"002-A6 w(0.0035,700)", state.w, 644_289_068, 3)
-}
-
-fn a6_third(tally: Tally) -> Tally {
-    let state = Region2::state(30.0, 700.0);
-    tally
-        .line(b"002-A6 v(30,700)", state.v, 542_946_619, -2)
-        .line(b"002-A6 h(30,700)", state.h, 263_149_474, 4)
-        .line(b"002-A6 u(30,700)", state.u, 246_861_076, 4)
-        .line(b"002-A6 s(30,700)", state.s, 517_540_298, 1)
-        .line(b"002-A6 cp(30,700)", state.cp, 103_505_092, 2)
-        .line(b"002-A6 w(30,700)", state.w, 480_386_523, 3)
+    let tally = six(
+        tally,
+        b"002-A6 ",
+        b"(0.0035,300)",
+        Region2::state(0.0035, 300.0),
+        [
+            394_913_866,
+            254_991_145,
+            241_169_160,
+            852_238_967,
+            191_300_162,
+            427_920_172,
+        ],
+        [2, 4, 4, 1, 1, 3],
+    );
+    let tally = six(
+        tally,
+        b"002-A6 ",
+        b"(0.0035,700)",
+        Region2::state(0.0035, 700.0),
+        [
+            923_015_898,
+            333_568_375,
+            301_262_819,
+            101_749_996,
+            208_141_274,
+            644_289_068,
+        ],
+        [2, 4, 4, 2, 1, 3],
+    );
+    six(
+        tally,
+        b"002-A6 ",
+        b"(30,700)",
+        Region2::state(30.0, 700.0),
+        [
+            542_946_619,
+            263_149_474,
+            246_861_076,
+            517_540_298,
+            103_505_092,
+            480_386_523,
+        ],
+        [-2, 4, 4, 1, 2, 3],
+    )
 }
 
 // Table A12: the saturation pressure.
@@ -133,42 +185,51 @@ fn a12(tally: Tally) -> Tally {
 
 // Table A15: region 5.
 fn a15(tally: Tally) -> Tally {
-    let tally = a15_first(tally);
-    let tally = a15_second(tally);
-    a15_third(tally)
-}
-
-fn a15_first(tally: Tally) -> Tally {
-    let state = Region5::state(0.5, 1500.0);
-    tally
-        .line(b"002-A15 v(0.5,1500)", state.v, 138_455_354, 1)
-        .line(b"002-A15 h(0.5,1500)", state.h, 521_976_332, 4)
-        .line(b"002-A15 u(0.5,1500)", state.u, 452_748_654, 4)
-        .line(b"002-A15 s(0.5,1500)", state.s, 965_408_431, 1)
-        .line(b"002-A15 cp(0.5,1500)", state.cp, 261_610_228, 1)
-        .line(b"002-A15 w(0.5,1500)", state.w, 917_071_933, 3)
-}
-
-fn a15_second(tally: Tally) -> Tally {
-    let state = Region5::state(8.0, 1500.0);
-    tally
-        .line(b"002-A15 v(8,1500)", state.v, 865_156_616, -1)
-        .line(b"002-A15 h(8,1500)", state.h, 520_609_634, 4)
-        .line(b"002-A15 u(8,1500)", state.u, 451_397_105, 4)
-        .line(b"002-A15 s(8,1500)", state.s, 836_546_724, 1)
-        .line(b"002-A15 cp(8,1500)", state.cp, 264_453_866, 1)
-        .line(b"002-A15 w(8,1500)", state.w, 919_708_859, 3)
-}
-
-fn a15_third(tally: Tally) -> Tally {
-    let state = Region5::state(8.0, 2000.0);
-    tally
-        .line(b"002-A15 v(8,2000)", state.v, 115_743_146, 0)
-        .line(b"002-A15 h(8,2000)", state.h, 658_380_291, 4)
-        .line(b"002-A15 u(8,2000)", state.u, 565_785_774, 4)
-        .line(b"002-A15 s(8,2000)", state.s, 915_671_044, 1)
-        .line(b"002-A15 cp(8,2000)", state.cp, 285_306_750, 1)
-        .line(b"002-A15 w(8,2000)", state.w, 105_435_806, 4)
+    let tally = six(
+        tally,
+        b"002-A15 ",
+        b"(0.5,1500)",
+        Region5::state(0.5, 1500.0),
+        [
+            138_455_354,
+            521_976_332,
+            452_748_654,
+            965_408_431,
+            261_610_228,
+            917_071_933,
+        ],
+        [1, 4, 4, 1, 1, 3],
+    );
+    let tally = six(
+        tally,
+        b"002-A15 ",
+        b"(8,1500)",
+        Region5::state(8.0, 1500.0),
+        [
+            865_156_616,
+            520_609_634,
+            451_397_105,
+            836_546_724,
+            264_453_866,
+            919_708_859,
+        ],
+        [-1, 4, 4, 1, 1, 3],
+    );
+    six(
+        tally,
+        b"002-A15 ",
+        b"(8,2000)",
+        Region5::state(8.0, 2000.0),
+        [
+            115_743_146,
+            658_380_291,
+            565_785_774,
+            915_671_044,
+            285_306_750,
+            105_435_806,
+        ],
+        [0, 4, 4, 1, 1, 4],
+    )
 }
 
 // Table A17: T(p,h) of region 1.

@@ -20,11 +20,31 @@ impl Tally {
 
     // Writes the line of a value that the paper prints as 0.DIGITS · 10^k, and counts it.
     pub fn line(self, label: &[u8], computed: f64, digits: u64, k: i16) -> Self {
+        io::write_all(1, label);
+        self.numbers(computed, digits, k)
+    }
+
+    // The same of a quantity at a point of a table, its label in three parts.
+    pub fn part(
+        self,
+        table: &[u8],
+        quantity: &[u8],
+        point: &[u8],
+        computed: f64,
+        digits: u64,
+        k: i16,
+    ) -> Self {
+        io::write_all(1, table);
+        io::write_all(1, quantity);
+        self.line(point, computed, digits, k)
+    }
+
+    // Ends the line with both numbers, and counts it.
+    fn numbers(self, computed: f64, digits: u64, k: i16) -> Self {
         let unit = unit_of(digits);
         let found = nearest_whole(
             computed / arith::power(10.0, k) * std::num::nearest_u64_to_f64(unit),
         );
-        io::write_all(1, label);
         print_number(digits, unit, k);
         print_number(found, unit, k);
         io::write_all(1, b"\n");

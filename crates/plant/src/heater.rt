@@ -1,13 +1,14 @@
 // A feedwater heater: bled steam warms the feedwater and leaves as its drain. It asks for its water in
 // directly and posts three queries (p,h): 0 the bled steam, 1 the drain, 2 the water out. It knows its
 // own tickets and nothing of who else posts.
+mod places;
+
 ghost use Prim.Native.Nat.{_<_};
-use crate::asking;
-use crate::asking::Known;
-use crate::asking::Ticket;
-use crate::lines;
-use crate::lines::Output;
-use crate::lines::Place;
+use crate::heater::places::Place;
+use crate::model;
+use crate::model::Known;
+use crate::model::Output;
+use crate::model::Ticket;
 use desk::Desk;
 
 // The number by which the desk knows the heater.
@@ -35,11 +36,12 @@ const STEAM_H: f64 = 2900.0;
 const DRAIN_H: f64 = 650.0;
 
 // Whether the heater still runs, that is no call of its was refused; the enthalpy of its water in, in
-// kJ/kg; and the tickets of its three queries.
+// kJ/kg; the tickets of its three queries; and where in its room its next line goes.
 pub struct Heater {
     pub runs: bool,
     pub h_in: f64,
     pub tickets: [u64; 3],
+    pub next_line: usize,
 }
 
 // The heater and the desk that it was lent.
@@ -83,48 +85,48 @@ fn enthalpy(i: usize, h_in: f64) -> f64 {
 // What the heater gives there: heat, to the water out.
 fn given(i: usize) -> Output {
     match i {
-        2 => Output::Heat(heat() / lines::KW_IN_MW),
+        2 => Output::Heat(heat() / model::KW_IN_MW),
         _ => Output::Nothing,
     }
 }
 
-// Prints a line of the heater's.
-fn say(place: Place, known: Known, output: Output) {
-    let mut text = [0u8; 256];
-    let n = lines::line(place, known, output, &mut text, 0);
-    lines::show(&text, 0, n);
+// Writes a line of the heater's.
+fn say(heater: Heater, place: Place, known: Known, given: Output, text: &mut [u8]) -> Heater {
+    let n = places::title(place, text, heater.next_line);
+    let mut after = heater;
+    after.next_line = model::told(known, given, text, n);
+    after
 }
 
 // The heater stops at a refusal, and says so.
-fn stop(heater: Heater, place: Place, number: u64) -> Heater {
-    say(place, Known::Refused(number), Output::Nothing);
-    let mut stopped = heater;
+fn stop(heater: Heater, place: Place, number: u64, text: &mut [u8]) -> Heater {
+    let mut stopped = say(heater, place, Known::Refused(number), Output::Nothing, text);
     stopped.runs = false;
     stopped
 }
 
 // The heater with its water in, whose state is asked for directly.
-pub fn water_in() -> Heater {
+pub(crate) fn water_in(text: &mut [u8]) -> Heater {
     let none = [0u64; 3];
     let mut heater = Heater {
         runs: true,
         h_in: 0.0,
         tickets: none,
+        next_line: 0,
     };
-    let known = asking::ask(WATER_P, WATER_IN_T);
+    let known = model::ask(WATER_P, WATER_IN_T);
     match known {
         Known::State(single) => {
-            say(Place::WaterIn, known, Output::Nothing);
             let properties = single.state;
             heater.h_in = properties.h;
-            heater
+            say(heater, Place::WaterIn, known, Output::Nothing, text)
         }
-        Known::Refused(number) => stop(heater, Place::WaterIn, number),
+        Known::Refused(number) => stop(heater, Place::WaterIn, number, text),
     }
 }
 
 // Posts query i.
-fn post_one(lent: AtDesk, i: usize) -> AtDesk
+fn post_one(lent: AtDesk, i: usize, text: &mut [u8]) -> AtDesk
     requires { ⌜ i < 3 ⌝ }
 {
     let mut heater = lent.heater;
@@ -132,10 +134,10 @@ fn post_one(lent: AtDesk, i: usize) -> AtDesk
         return lent;
     }
     let desk = lent.desk;
-    let posted = asking::post(
+    let posted = model::post(
         desk,
         CALLER,
-        asking::P_H,
+        model::P_H,
         pressure(i),
         enthalpy(i, heater.h_in),
     );
@@ -148,13 +150,13 @@ fn post_one(lent: AtDesk, i: usize) -> AtDesk
         }
         Ticket::Refused(number) => AtDesk {
             desk,
-            heater: stop(heater, place(i), number),
+            heater: stop(heater, place(i), number, text),
         },
     }
 }
 
 // Collects query i.
-fn collect_one(lent: AtDesk, i: usize) -> AtDesk
+fn collect_one(lent: AtDesk, i: usize, text: &mut [u8]) -> AtDesk
     requires { ⌜ i < 3 ⌝ }
 {
     let heater = lent.heater;
@@ -163,31 +165,31 @@ fn collect_one(lent: AtDesk, i: usize) -> AtDesk
     }
     let desk = lent.desk;
     let ticket = heater.tickets[i];
-    let collected = asking::collect(desk, CALLER, ticket);
+    let collected = model::collect(desk, CALLER, ticket);
     let desk = collected.desk;
     let known = collected.known;
     match known {
-        Known::State(_) => {
-            say(place(i), known, given(i));
-            AtDesk { desk, heater }
-        }
+        Known::State(_) => AtDesk {
+            desk,
+            heater: say(heater, place(i), known, given(i), text),
+        },
         Known::Refused(number) => AtDesk {
             desk,
-            heater: stop(heater, place(i), number),
+            heater: stop(heater, place(i), number, text),
         },
     }
 }
 
 // Posts all three.
-pub fn post(lent: AtDesk) -> AtDesk {
-    let lent = post_one(lent, 0);
-    let lent = post_one(lent, 1);
-    post_one(lent, 2)
+pub(crate) fn post(lent: AtDesk, text: &mut [u8]) -> AtDesk {
+    let lent = post_one(lent, 0, text);
+    let lent = post_one(lent, 1, text);
+    post_one(lent, 2, text)
 }
 
 // Collects all three in the order of their posts.
-pub fn collect(lent: AtDesk) -> AtDesk {
-    let lent = collect_one(lent, 0);
-    let lent = collect_one(lent, 1);
-    collect_one(lent, 2)
+pub(crate) fn collect(lent: AtDesk, text: &mut [u8]) -> AtDesk {
+    let lent = collect_one(lent, 0, text);
+    let lent = collect_one(lent, 1, text);
+    collect_one(lent, 2, text)
 }

@@ -1,12 +1,13 @@
 // A turbine of three stages. A stage is settled by two queries: where an ideal expansion, which keeps
 // the entropy, would end, (p,s), and where the real one ends, (p,h). The turbine knows its own tickets
 // and nothing of who else posts.
-use crate::asking;
-use crate::asking::Known;
-use crate::asking::Ticket;
-use crate::lines;
-use crate::lines::Output;
-use crate::lines::Place;
+mod places;
+
+use crate::model;
+use crate::model::Known;
+use crate::model::Output;
+use crate::model::Ticket;
+use crate::turbine::places::Place;
 use desk::Desk;
 use states::Single;
 
@@ -71,13 +72,11 @@ fn pressure_behind(stage: u64) -> f64 {
     }
 }
 
-// Writes and prints a line of the turbine's.
+// Writes a line of the turbine's.
 fn say(turbine: Turbine, place: Place, known: Known, given: Output, text: &mut [u8]) -> Turbine {
-    let from = turbine.next_line;
-    let to = lines::line(place, known, given, text, from);
-    lines::show(text, from, to);
+    let n = places::title(place, text, turbine.next_line);
     let mut after = turbine;
-    after.next_line = to;
+    after.next_line = model::told(known, given, text, n);
     after
 }
 
@@ -97,7 +96,7 @@ fn stop(turbine: Turbine, place: Place, number: u64, text: &mut [u8]) -> Turbine
 // Keeps every bit of a state.
 fn keep(turbine: Turbine, single: Single, bits: &mut [u8]) -> Turbine {
     let mut after = turbine;
-    after.next_bits = lines::bits(single, bits, turbine.next_bits);
+    after.next_bits = model::bits(single, bits, turbine.next_bits);
     after
 }
 
@@ -111,7 +110,7 @@ fn fed(turbine: Turbine, single: Single) -> Turbine {
 }
 
 // The turbine at its inlet, whose state is asked for directly.
-pub fn inlet(text: &mut [u8], bits: &mut [u8]) -> Turbine {
+pub(crate) fn inlet(text: &mut [u8], bits: &mut [u8]) -> Turbine {
     let turbine = Turbine {
         runs: true,
         ticket: 0,
@@ -122,14 +121,14 @@ pub fn inlet(text: &mut [u8], bits: &mut [u8]) -> Turbine {
         next_line: 0,
         next_bits: 0,
     };
-    let known = asking::ask(INLET_P, INLET_T);
+    let known = model::ask(INLET_P, INLET_T);
     match known {
         Known::State(single) => {
-            let turbine = say(turbine, Place::TurbineInlet, known, Output::Nothing, text);
+            let turbine = say(turbine, Place::Inlet, known, Output::Nothing, text);
             let turbine = keep(turbine, single, bits);
             fed(turbine, single)
         }
-        Known::Refused(number) => stop(turbine, Place::TurbineInlet, number, text),
+        Known::Refused(number) => stop(turbine, Place::Inlet, number, text),
     }
 }
 
@@ -140,7 +139,7 @@ fn post(lent: AtDesk, place: Place, stage: u64, kind: u64, y: f64, text: &mut [u
         return lent;
     }
     let desk = lent.desk;
-    let posted = asking::post(desk, CALLER, kind, pressure_behind(stage), y);
+    let posted = model::post(desk, CALLER, kind, pressure_behind(stage), y);
     let desk = posted.desk;
     let ticket = posted.ticket;
     match ticket {
@@ -156,26 +155,26 @@ fn post(lent: AtDesk, place: Place, stage: u64, kind: u64, y: f64, text: &mut [u
 }
 
 // Asks where an ideal expansion would end, at the entropy before the stage.
-pub fn post_ideal(lent: AtDesk, stage: u64, text: &mut [u8]) -> AtDesk {
+pub(crate) fn post_ideal(lent: AtDesk, stage: u64, text: &mut [u8]) -> AtDesk {
     let turbine = lent.turbine;
     post(
         lent,
         Place::IdealEnd(stage),
         stage,
-        asking::P_S,
+        model::P_S,
         turbine.s,
         text,
     )
 }
 
 // Asks for the state behind the stage, at the enthalpy that the real expansion ends at.
-pub fn post_real(lent: AtDesk, stage: u64, text: &mut [u8]) -> AtDesk {
+pub(crate) fn post_real(lent: AtDesk, stage: u64, text: &mut [u8]) -> AtDesk {
     let turbine = lent.turbine;
     post(
         lent,
         Place::StageEnd(stage),
         stage,
-        asking::P_H,
+        model::P_H,
         turbine.h_out,
         text,
     )
@@ -193,7 +192,7 @@ fn collect(lent: AtDesk, place: Place, text: &mut [u8]) -> Collected {
             known: Known::Refused(0),
         };
     }
-    let collected = asking::collect(desk, CALLER, turbine.ticket);
+    let collected = model::collect(desk, CALLER, turbine.ticket);
     let desk = collected.desk;
     let known = collected.known;
     match known {
@@ -235,7 +234,7 @@ fn expand(
     bits: &mut [u8],
 ) -> Turbine {
     let behind = single.state;
-    let power = STEAM_FLOW * (turbine.h - behind.h) / lines::KW_IN_MW;
+    let power = STEAM_FLOW * (turbine.h - behind.h) / model::KW_IN_MW;
     let turbine = say(
         turbine,
         place,
@@ -249,7 +248,7 @@ fn expand(
 }
 
 // Collects the ideal end of the stage.
-pub fn collect_ideal(lent: AtDesk, stage: u64, text: &mut [u8], bits: &mut [u8]) -> AtDesk {
+pub(crate) fn collect_ideal(lent: AtDesk, stage: u64, text: &mut [u8], bits: &mut [u8]) -> AtDesk {
     let place = Place::IdealEnd(stage);
     let collected = collect(lent, place, text);
     let desk = collected.desk;
@@ -265,7 +264,7 @@ pub fn collect_ideal(lent: AtDesk, stage: u64, text: &mut [u8], bits: &mut [u8])
 }
 
 // Collects the state behind the stage.
-pub fn collect_real(lent: AtDesk, stage: u64, text: &mut [u8], bits: &mut [u8]) -> AtDesk {
+pub(crate) fn collect_real(lent: AtDesk, stage: u64, text: &mut [u8], bits: &mut [u8]) -> AtDesk {
     let place = Place::StageEnd(stage);
     let collected = collect(lent, place, text);
     let desk = collected.desk;
@@ -281,10 +280,16 @@ pub fn collect_real(lent: AtDesk, stage: u64, text: &mut [u8], bits: &mut [u8]) 
 }
 
 // The shaft power of all stages, if the turbine ran through.
-pub fn sum_up(turbine: Turbine, text: &mut [u8]) {
-    if turbine.runs {
-        let from = turbine.next_line;
-        let to = lines::in_all(turbine.power, text, from);
-        lines::show(text, from, to);
+pub(crate) fn sum_up(turbine: Turbine, text: &mut [u8]) -> Turbine {
+    if !turbine.runs {
+        return turbine;
     }
+    let mut after = turbine;
+    after.next_line = model::megawatts(
+        b"  turbine in all: shaft power ",
+        turbine.power,
+        text,
+        turbine.next_line,
+    );
+    after
 }

@@ -1,8 +1,8 @@
--- `plant::asking::turns` ends: each pass of the loop brings k nearer to n. Assumes nothing.
+-- `plant::model::asking::turns` ends: each pass of the loop brings k nearer to n. Assumes nothing.
 use borrow.Author.Needs.{needs}
 use Prim.Native.Nat.{_-_, _≤_}
-use Rattle.plant.proofs.asking.turns.Statement.{statement}
-use Rattle.plant.proofs.asking.turns.Tie as tie
+use Rattle.plant.proofs.model.asking.turns.Statement.{statement}
+use Rattle.plant.proofs.model.asking.turns.Tie as tie
 
 abbrev Inv-loop : tie.InvT-loop
 Inv-loop n d₀ k₀ d k = k ≤ n

@@ -35,7 +35,7 @@ pub struct Collected {
 }
 
 // The state at p in MPa and t in K, asked for directly. A (p,T) query is never wet.
-pub fn ask(p: f64, t: f64) -> Known {
+pub(crate) fn ask(p: f64, t: f64) -> Known {
     let answer = sums::from_pt(p, t);
     match answer {
         sums::Answer::Single(a) => Known::State(a),
@@ -67,7 +67,7 @@ fn known_of(answer: Answer) -> Known {
 }
 
 // Posts the query of this kind with p and y, its h or its s.
-pub fn post(d: Desk, caller: u64, kind: u64, p: f64, y: f64) -> Posted {
+pub(crate) fn post(d: Desk, caller: u64, kind: u64, p: f64, y: f64) -> Posted {
     let o = desk::post(d, caller, kind, p, y);
     let e = o.desk;
     let answer = o.answer;
@@ -78,7 +78,7 @@ pub fn post(d: Desk, caller: u64, kind: u64, p: f64, y: f64) -> Posted {
 }
 
 // Collects the state of a ticket.
-pub fn collect(d: Desk, caller: u64, ticket: u64) -> Collected {
+pub(crate) fn collect(d: Desk, caller: u64, ticket: u64) -> Collected {
     let o = desk::collect(d, caller, ticket);
     let e = o.desk;
     let answer = o.answer;
@@ -89,7 +89,7 @@ pub fn collect(d: Desk, caller: u64, ticket: u64) -> Collected {
 }
 
 // n turns of the desk, to whomever they fall.
-pub fn turns(start: Desk, n: u64) -> Desk {
+pub(crate) fn turns(start: Desk, n: u64) -> Desk {
     let mut d = start;
     let mut k = 0u64;
     while k < n {
