@@ -32,7 +32,7 @@ pub fn tables(tally: Tally) -> Tally {
 }
 
 // The six quantities of a state of a table, in the table's order: v, h, u, s, cp, w.
-fn six(tally: Tally, table: &[u8], point: &[u8], x: State, digits: [u64; 6], k: [i8; 6]) -> Tally {
+fn six(tally: Tally, table: &[u8], point: &[u8], x: State, digits: [u64; 6], k: [i16; 6]) -> Tally {
     let tally = v_h_u(tally, table, point, x, digits, k);
     s_cp_w(tally, table, point, x, digits, k)
 }
@@ -43,7 +43,7 @@ fn v_h_u(
     point: &[u8],
     x: State,
     digits: [u64; 6],
-    k: [i8; 6],
+    k: [i16; 6],
 ) -> Tally {
     tally
         .part(table, b"v", point, x.v, digits[0], k[0])
@@ -57,7 +57,7 @@ fn s_cp_w(
     point: &[u8],
     x: State,
     digits: [u64; 6],
-    k: [i8; 6],
+    k: [i16; 6],
 ) -> Tally {
     tally
         .part(table, b"s", point, x.s, digits[3], k[3])
