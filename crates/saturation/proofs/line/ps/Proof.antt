@@ -1,4 +1,5 @@
 -- `saturation::line::ps` meets its contract: the code is Eq. (28), with what `root` promises, and its literals are Table A11. Assumes nothing.
+use mathlib.Core.Path.{refl}
 use lib.Ieee.{round, ofInt, ofBits}
 use borrow.Author.Needs.{needs}
 use Rattle.arith.specs.Printed.{printed}
@@ -11,7 +12,7 @@ root-requires c κs = search needs
 
 returns : tie.Need-returns
 unfolding psOf printed round ofInt ofBits
-returns c = rw (c .root .ensures)
+returns c = rw (c .root .ensures) refl
 
 pub ps-spec : {M : Type 1} → statement M
 ps-spec = tie.close (tie.spec root-requires returns)
