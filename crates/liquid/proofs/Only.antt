@@ -5,6 +5,8 @@ use Rattle.liquid.proofs.region1.Region1.point.Kinds as point-1-kinds
 use Rattle.liquid.proofs.region1.Region1.point.Reads as point-1
 use Rattle.liquid.proofs.region1.Region1.gamma.Kinds as gamma-1-kinds
 use Rattle.liquid.proofs.region1.Region1.gamma.Reads as gamma-1
+use Rattle.liquid.proofs.region1.Region1.unrooted_of.Kinds as unrooted-of-1-kinds
+use Rattle.liquid.proofs.region1.Region1.unrooted_of.Reads as unrooted-of-1
 use Rattle.liquid.proofs.region1.Region1.state_of.Kinds as state-of-1-kinds
 use Rattle.liquid.proofs.region1.Region1.state_of.Reads as state-of-1
 use Rattle.liquid.proofs.region1.Region1.state.Kinds as state-1-kinds
@@ -21,6 +23,9 @@ point-1-only κs a x y s t p q = p ∙ sym q
 
 pub gamma-1-only : Only 0 gamma-1-kinds.ps gamma-1-kinds.r gamma-1.Post
 gamma-1-only κs a x y s t p q = p ∙ sym q
+
+pub unrooted-of-1-only : Only 0 unrooted-of-1-kinds.ps unrooted-of-1-kinds.r unrooted-of-1.Post
+unrooted-of-1-only κs a x y s t p q = p ∙ sym q
 
 pub state-of-1-only : Only 0 state-of-1-kinds.ps state-of-1-kinds.r state-of-1.Post
 state-of-1-only κs a x y s t p q = p ∙ sym q

@@ -10,8 +10,9 @@ use Rattle.terms.specs.Sum.{Term, row, sumOf}
 use Rattle.terms.specs.Six.{sixOf}
 use Rattle.terms.specs.declared.Six.{Six}
 use Rattle.arith.specs.Coefficients.{plus, minus}
-use Rattle.properties.specs.Properties.{reducedBy, propertiesOf}
+use Rattle.properties.specs.Properties.{reducedBy, unrootedOf, rootedOf}
 use Rattle.properties.specs.declared.State.{State}
+use Rattle.properties.specs.declared.Unrooted.{Unrooted}
 use Rattle.properties.specs.declared.Response.{Response}
 use Rattle.properties.specs.declared.Point.{Point}
 use Rattle.liquid.specs.declared.Liquid.{Liquid}
@@ -74,12 +75,16 @@ gamma1 p t =
     record { g = sum1 x 0 0; gp = neg (sum1 x 1 0); gpp = sum1 x 2 0; gt = sum1 x 0 1; gtt = sum1 x 0 2; gpt = neg (sum1 x 1 1) }
 
 -- Table 2. w²/RT = γπ² / ((γπ - τ·γπτ)² / (τ²·γττ) - γππ)
-unfoldable pub stateOf1 : Float → Float → Liquid → State
-stateOf1 p t γ =
+unfoldable pub unrootedOf1 : Float → Float → Liquid → Unrooted
+unrootedOf1 p t γ =
     let x = point1 p t in
     let d = γ .gp ⊖ x .tau ⊗ γ .gpt in
-    propertiesOf x (γ .g) (γ .gp) (γ .gt) (γ .gtt)
+    unrootedOf x (γ .g) (γ .gp) (γ .gt) (γ .gtt)
     (γ .gp ⊗ γ .gp ⊘ (d ⊗ d ⊘ (x .tau ⊗ x .tau ⊗ γ .gtt) ⊖ γ .gpp))
+
+-- with w itself
+unfoldable pub stateOf1 : Float → Float → Liquid → State
+stateOf1 p t γ = rootedOf (unrootedOf1 p t γ)
 
 -- The state at p and T
 unfoldable pub state1 : Float → Float → State

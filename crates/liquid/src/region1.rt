@@ -3,13 +3,15 @@ use crate::Liquid;
 use properties::Point;
 use properties::Response;
 use properties::State;
+use properties::Unrooted;
 use properties::enthalpy;
 use properties::entropy;
 use properties::from_gamma;
 use properties::reduced;
+use properties::rooted;
 use terms::Six;
 ghost use mathlib.Core.Path.{_≡_};
-ghost use Rattle.liquid.specs.Region1.{point1, sum1, six1, gamma1, stateOf1, state1, responseOf1, h1, s1};
+ghost use Rattle.liquid.specs.Region1.{point1, sum1, six1, gamma1, unrootedOf1, stateOf1, state1, responseOf1, h1, s1};
 
 const I: [i8; 34] = [
     0,
@@ -178,14 +180,21 @@ impl Region1 {
         }
     }
 
-    // The six properties from what gamma gave for p and t.
-    pub fn state_of(p: f64, t: f64, g: Liquid) -> State
-        ensures { λ r. ⌜ r ≡ stateOf1 p t g ⌝ }
+    // The six properties with w squared, from what gamma gave for p and t.
+    pub fn unrooted_of(p: f64, t: f64, g: Liquid) -> Unrooted
+        ensures { λ r. ⌜ r ≡ unrootedOf1 p t g ⌝ }
     {
         let x = Self::point(p, t);
         let d = g.gp - x.tau * g.gpt;
         let quotient = g.gp * g.gp / (d * d / (x.tau * x.tau * g.gtt) - g.gpp);
         from_gamma(x, g.g, g.gp, g.gt, g.gtt, quotient)
+    }
+
+    // The six properties from what gamma gave for p and t.
+    pub fn state_of(p: f64, t: f64, g: Liquid) -> State
+        ensures { λ r. ⌜ r ≡ stateOf1 p t g ⌝ }
+    {
+        rooted(Self::unrooted_of(p, t, g))
     }
 
     // The six properties.

@@ -9,6 +9,8 @@ use Rattle.properties.proofs.gibbs.entropy.Kinds as entropy-kinds
 use Rattle.properties.proofs.gibbs.entropy.Reads as entropy
 use Rattle.properties.proofs.gibbs.from_gamma.Kinds as from-gamma-kinds
 use Rattle.properties.proofs.gibbs.from_gamma.Reads as from-gamma
+use Rattle.properties.proofs.gibbs.rooted.Kinds as rooted-kinds
+use Rattle.properties.proofs.gibbs.rooted.Reads as rooted
 
 pub reduced-only : Only 0 reduced-kinds.ps reduced-kinds.r reduced.Post
 reduced-only κs a x y s t p q = p ∙ sym q
@@ -21,3 +23,6 @@ entropy-only κs a x y s t p q = p ∙ sym q
 
 pub from-gamma-only : Only 0 from-gamma-kinds.ps from-gamma-kinds.r from-gamma.Post
 from-gamma-only κs a x y s t p q = p ∙ sym q
+
+pub rooted-only : Only 0 rooted-kinds.ps rooted-kinds.r rooted.Post
+rooted-only κs a x y s t p q = p ∙ sym q

@@ -4,6 +4,7 @@ use lib.Ieee.{Float, neg}
 use Rattle.arith.specs.F64.{f64, _⊕_, _⊖_, _⊗_, _⊘_}
 use Rattle.arith.specs.Root.{rootOf}
 use Rattle.properties.specs.declared.State.{State}
+use Rattle.properties.specs.declared.Unrooted.{Unrooted}
 use Rattle.properties.specs.declared.Point.{Point}
 
 -- p and T as a region reads them that has the gas constant R and reduces by pr = p* and tr = T*: π = p/p*, τ = T*/T
@@ -18,9 +19,9 @@ enthalpyOf x γτ = x .r ⊗ x .t ⊗ x .tau ⊗ γτ
 abbrev pub entropyOf : Point → Float → Float → Float
 entropyOf x γ γτ = x .r ⊗ (x .tau ⊗ γτ ⊖ γ)
 
--- All six. `quotient` is what Tables 2 and 4 print for w²/(R·T), and w is in m/s: hence the second 1000.
-unfoldable pub propertiesOf : Point → (γ γπ γτ γττ quotient : Float) → State
-propertiesOf x γ γπ γτ γττ quotient =
+-- All six, of w its square. `quotient` is what Tables 2 and 4 print for w²/(R·T), and w is in m/s: hence the second 1000.
+unfoldable pub unrootedOf : Point → (γ γπ γτ γττ quotient : Float) → Unrooted
+unrootedOf x γ γπ γτ γττ quotient =
     let RT = x .r ⊗ x .t in
     record {
       v = RT ⊗ x .pi ⊗ γπ ⊘ (f64 1000 ⊗ x .p);
@@ -28,5 +29,9 @@ propertiesOf x γ γπ γτ γττ quotient =
       h = enthalpyOf x γτ;
       s = entropyOf x γ γτ;
       cp = neg (x .r) ⊗ (x .tau ⊗ x .tau) ⊗ γττ;
-      w = rootOf (f64 1000 ⊗ RT ⊗ quotient);
+      ww = f64 1000 ⊗ RT ⊗ quotient;
     }
+
+-- with w itself
+unfoldable pub rootedOf : Unrooted → State
+rootedOf a = record { v = a .v; u = a .u; h = a .h; s = a .s; cp = a .cp; w = rootOf (a .ww) }

@@ -2,8 +2,9 @@
 // as every region works them: 002, Tables 2 and 4 (specs/Properties.antt).
 use crate::Point;
 use crate::State;
+use crate::Unrooted;
 ghost use mathlib.Core.Path.{_≡_};
-ghost use Rattle.properties.specs.Properties.{reducedBy, enthalpyOf, entropyOf, propertiesOf};
+ghost use Rattle.properties.specs.Properties.{reducedBy, enthalpyOf, entropyOf, unrootedOf, rootedOf};
 
 // p and T as a region reads them that has the gas constant r and reduces by pr and tr.
 pub fn reduced(r: f64, pr: f64, tr: f64, p: f64, t: f64) -> Point
@@ -32,17 +33,31 @@ pub fn entropy(x: Point, g: f64, gt: f64) -> f64
     x.r * (x.tau * gt - g)
 }
 
-// All six properties, from γ, γπ, γτ, γττ and the quotient that is w²/(R·T).
-pub fn from_gamma(x: Point, g: f64, gp: f64, gt: f64, gtt: f64, quotient: f64) -> State
-    ensures { λ r. ⌜ r ≡ propertiesOf x g gp gt gtt quotient ⌝ }
+// The six properties with w squared, from γ, γπ, γτ, γττ and the quotient that is w²/(R·T).
+pub fn from_gamma(x: Point, g: f64, gp: f64, gt: f64, gtt: f64, quotient: f64) -> Unrooted
+    ensures { λ r. ⌜ r ≡ unrootedOf x g gp gt gtt quotient ⌝ }
 {
     let rt = x.r * x.t;
-    State {
+    Unrooted {
         v: rt * x.pi * gp / (1000.0 * x.p),
         u: rt * (x.tau * gt - x.pi * gp),
         h: enthalpy(x, gt),
         s: entropy(x, g, gt),
         cp: -x.r * (x.tau * x.tau) * gtt,
-        w: arith::root(1000.0 * rt * quotient),
+        ww: 1000.0 * rt * quotient,
+    }
+}
+
+// The six properties, w by its root.
+pub fn rooted(a: Unrooted) -> State
+    ensures { λ r. ⌜ r ≡ rootedOf a ⌝ }
+{
+    State {
+        v: a.v,
+        u: a.u,
+        h: a.h,
+        s: a.s,
+        cp: a.cp,
+        w: arith::root(a.ww),
     }
 }

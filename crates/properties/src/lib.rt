@@ -7,6 +7,7 @@ pub use gibbs::enthalpy;
 pub use gibbs::entropy;
 pub use gibbs::from_gamma;
 pub use gibbs::reduced;
+pub use gibbs::rooted;
 
 // A pressure and a temperature as a region reads them: with its gas constant R and the reduced
 // pressure π and temperature τ.
@@ -26,6 +27,16 @@ pub struct State {
     pub s: f64,
     pub cp: f64,
     pub w: f64,
+}
+
+// The same with w squared, in m²/s²: whoever does not take the speed of sound spares its root.
+pub struct Unrooted {
+    pub v: f64,
+    pub u: f64,
+    pub h: f64,
+    pub s: f64,
+    pub cp: f64,
+    pub ww: f64,
 }
 
 // How the volume answers to heat and pressure: the thermal expansion α in 1/K and the isothermal

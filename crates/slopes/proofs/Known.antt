@@ -1,7 +1,9 @@
--- The numbers of properties, once tested, are from 1 to 8. Assumes nothing.
+-- The numbers of properties, once tested, are from 1 to 8, and that which is none of the first seven is 8. Assumes nothing.
 use mathlib.Core.Path.{_≡_, refl}
+use mathlib.Core.Logic.{_≢_}
 use mathlib.Core.Bool.{Bool, true, false, _&&_}
 use Prim.Native.Nat.{ℕ, _≤_}
+use native.Mathlib.Omega.{arith}
 use lib.Dec.{leb}
 use borrow.Author.Tests.{leb-true}
 use Rattle.slopes.specs.Slopes.{known, allKnown}
@@ -24,3 +26,12 @@ ranges z x y k =
     let a = both (known z) (known x && known y) k in
     let b = both (known x) (known y) (a .1) in
     record { of-z = range z (a .0); of-x = range x (b .0); of-y = range y (b .1) }
+
+upper : (n : ℕ) → 1 ≤ n → n ≢ 1 → n ≢ 2 → n ≢ 3 → n ≢ 4 → 5 ≤ n
+upper n least a b c d = omega arith
+
+uppermost : (n : ℕ) → 5 ≤ n → n ≤ 8 → n ≢ 5 → n ≢ 6 → n ≢ 7 → n ≡ 8
+uppermost n least most e f g = omega arith
+
+pub last : (n : ℕ) → (1 ≤ n) × (n ≤ 8) → n ≢ 1 → n ≢ 2 → n ≢ 3 → n ≢ 4 → n ≢ 5 → n ≢ 6 → n ≢ 7 → n ≡ 8
+last n k a b c d e f g = uppermost n (upper n (k .0) a b c d) (k .1) e f g

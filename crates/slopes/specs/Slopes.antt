@@ -10,6 +10,7 @@ use Rattle.arith.specs.F64.{f64, _⊖_, _⊗_, _⊘_}
 use Rattle.arith.specs.Bits.{finite}
 use Rattle.properties.specs.declared.Response.{Response}
 use Rattle.states.specs.declared.Single.{Single}
+use Rattle.slopes.specs.declared.rows.Change.{Change}
 use Rattle.slopes.specs.declared.Derivative.{Derivative}
 use Rattle.slopes.specs.declared.Derivative.the-variants.{Value, Refused}
 
@@ -50,6 +51,10 @@ byT a r =
 -- property n's derivative in such a list; another number has none
 abbrev pub slope : List Float → ℕ → Float
 slope slopes n = getD slopes (n - 1) nan
+
+-- both of its derivatives
+abbrev pub changeOf : Single → Response → ℕ → Change
+changeOf a r n = record { p = slope (byP a r) n; t = slope (byT a r) n }
 
 -- z_p·y_T - z_T·y_p
 abbrev pub determinant : List Float → List Float → ℕ → ℕ → Float

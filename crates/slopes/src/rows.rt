@@ -1,34 +1,52 @@
-// The slopes by p and by T (specs/Slopes.antt). There p is in kPa, so that v·p is in kJ/kg.
-use properties::Response;
-use states::Single;
+// How a property changes with p and with T (specs/Slopes.antt). There p is in kPa, so that v·p is in
+// kJ/kg.
+use states::Full;
 ghost use mathlib.Core.Path.{_≡_};
-ghost use Rattle.slopes.specs.Slopes.{byP, byT};
+ghost use Prim.Native.Nat.{_≤_};
+ghost use Rattle.states.specs.Marks.{handedOut};
+ghost use Rattle.slopes.specs.Slopes.{changeOf};
 
-// By p at constant T: of p, T, v, u, h, s, g, f.
-pub(crate) fn by_p(a: Single, r: Response) -> [f64; 8]
-    ensures { λ q. ⌜ q ≡ byP a r ⌝ }
-{
-    let p = 1000.0 * a.p;
-    let v = a.state.v;
-    [
-        1.0,
-        0.0,
-        -(v * r.kappa),
-        v * (p * r.kappa - a.t * r.alpha),
-        v * (1.0 - a.t * r.alpha),
-        -(v * r.alpha),
-        v,
-        p * v * r.kappa,
-    ]
+// By p at constant T, and by T at constant p.
+pub struct Change {
+    pub p: f64,
+    pub t: f64,
 }
 
-// By T at constant p: of p, T, v, u, h, s, g, f.
-pub(crate) fn by_t(a: Single, r: Response) -> [f64; 8]
-    ensures { λ q. ⌜ q ≡ byT a r ⌝ }
+// Of property n: p, T, v, u, h, s, g, f are 1 to 8.
+pub(crate) fn change_of(a: Full, n: u64) -> Change
+    requires { ⌜ (1 ≤ n) × (n ≤ 8) ⌝ }
+    ensures { λ r. ⌜ r ≡ changeOf (handedOut a) (a .worked .response) n ⌝ }
 {
-    let v = a.state.v;
-    let cp = a.state.cp;
-    let s = a.state.s;
-    let pva = 1000.0 * a.p * v * r.alpha;
-    [0.0, 1.0, v * r.alpha, cp - pva, cp, cp / a.t, -s, -pva - s]
+    let p = 1000.0 * a.p;
+    let t = a.t;
+    let v = a.worked.unrooted.v;
+    let s = a.worked.unrooted.s;
+    let cp = a.worked.unrooted.cp;
+    let alpha = a.worked.response.alpha;
+    let kappa = a.worked.response.kappa;
+    match n {
+        1 => Change { p: 1.0, t: 0.0 },
+        2 => Change { p: 0.0, t: 1.0 },
+        3 => Change {
+            p: -(v * kappa),
+            t: v * alpha,
+        },
+        4 => Change {
+            p: v * (p * kappa - t * alpha),
+            t: cp - p * v * alpha,
+        },
+        5 => Change {
+            p: v * (1.0 - t * alpha),
+            t: cp,
+        },
+        6 => Change {
+            p: -(v * alpha),
+            t: cp / t,
+        },
+        7 => Change { p: v, t: -s },
+        _ => Change {
+            p: p * v * kappa,
+            t: -(p * v * alpha) - s,
+        },
+    }
 }

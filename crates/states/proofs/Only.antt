@@ -12,6 +12,8 @@ use Rattle.states.proofs.marks.full_marked_both.Kinds as full-marked-bo
 use Rattle.states.proofs.marks.full_marked_both.Reads as full-marked-both
 use Rattle.states.proofs.marks.marked.Kinds as marked-kinds
 use Rattle.states.proofs.marks.marked.Reads as marked
+use Rattle.states.proofs.marks.handed_out.Kinds as handed-out-kinds
+use Rattle.states.proofs.marks.handed_out.Reads as handed-out
 use Rattle.states.proofs.mixing.wet_at.Kinds as wet-at-kinds
 use Rattle.states.proofs.mixing.wet_at.Reads as wet-at
 use Rattle.states.proofs.worked.property.Kinds as property-kinds
@@ -31,6 +33,9 @@ full-marked-both-only κs a x y s t p q = p ∙ sym q
 
 pub marked-only : Only 0 marked-kinds.ps marked-kinds.r marked.Post
 marked-only κs a x y s t p q = p ∙ sym q
+
+pub handed-out-only : Only 0 handed-out-kinds.ps handed-out-kinds.r handed-out.Post
+handed-out-only κs a x y s t p q = p ∙ sym q
 
 pub both-near-only : Only 0 both-near-kinds.ps both-near-kinds.r both-near.Post
 both-near-only κs a x y s t p q = p ∙ sym q

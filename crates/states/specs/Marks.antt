@@ -5,7 +5,8 @@ use lib.Ieee.{Float, neg, lt, le}
 use Rattle.arith.specs.F64.{f64, _⊖_}
 use Rattle.arith.specs.Printed.{less, printed}
 use Rattle.properties.specs.declared.State.{State}
-use Rattle.states.specs.States.{stateAt, responseAt, givenOf}
+use Rattle.properties.specs.Properties.{rootedOf}
+use Rattle.states.specs.States.{stateAt, workedAt, givenOf}
 use Rattle.states.specs.declared.Given.{Given}
 use Rattle.states.specs.declared.Single.{Single}
 use Rattle.states.specs.declared.Full.{Full}
@@ -46,14 +47,16 @@ markedOf given region p y t = singleOf region p t (verifiedOf given (stateAt reg
 abbrev pub markedBothOf : ℕ → Float → Float → Float → Float → Single
 markedBothOf region p t h s = singleOf region p t (bothNear hMargin sMargin (stateAt region p t) h s)
 
--- ---- with the α and κ that a derivative of the state needs, so that nothing is summed twice
-
-abbrev pub fullOf : Single → Full
-fullOf a = record { single = a; response = responseAt (a .region) (a .p) (a .t) }
+-- ---- as a state is carried: with w squared yet, so that its root is taken only where a state is handed out, and with the α and κ that a derivative of it
+-- needs, so that nothing is summed twice
 
 -- a state as it was worked, with its mark
 abbrev pub fullWith : ℕ → Float → Float → Worked → Bool → Full
-fullWith region p t a verified = record {
-  single = record { region = region; p = p; t = t; state = a .state; verified = verified };
-  response = a .response;
-}
+fullWith region p t worked verified = record { region = region; p = p; t = t; worked = worked; verified = verified }
+
+abbrev pub fullOf : Single → Full
+fullOf a = fullWith (a .region) (a .p) (a .t) (workedAt (a .region) (a .p) (a .t)) (a .verified)
+
+-- as it is handed out
+abbrev pub handedOut : Full → Single
+handedOut a = record { region = a .region; p = a .p; t = a .t; state = rootedOf (a .worked .unrooted); verified = a .verified }

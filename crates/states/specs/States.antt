@@ -3,11 +3,13 @@ use Prim.Native.Nat.{ℕ}
 use mathlib.Core.Bool.{cond}
 use lib.Dec.{eqb}
 use lib.Ieee.{Float}
+use Rattle.properties.specs.Properties.{rootedOf}
 use Rattle.properties.specs.declared.State.{State}
+use Rattle.properties.specs.declared.Unrooted.{Unrooted}
 use Rattle.properties.specs.declared.Response.{Response}
-use Rattle.liquid.specs.Region1.{gamma1, state1, responseOf1}
-use Rattle.vapour.specs.Region2.{gamma2, state2, responseOf2}
-use Rattle.vapour.specs.Region5.{gamma5, state5, responseOf5}
+use Rattle.liquid.specs.Region1.{gamma1, unrootedOf1, state1, responseOf1}
+use Rattle.vapour.specs.Region2.{gamma2, unrootedOf2, state2, responseOf2}
+use Rattle.vapour.specs.Region5.{gamma5, unrootedOf5, responseOf5}
 use Rattle.states.specs.declared.Given.{Given}
 use Rattle.states.specs.declared.Given.the-variants.{Enthalpy, Entropy}
 use Rattle.states.specs.declared.worked.Worked.{Worked}
@@ -16,17 +18,21 @@ use Rattle.states.specs.declared.worked.Worked.{Worked}
 abbrev pub byRegion : {A : Type 0} → ℕ → A → A → A → A
 byRegion region of1 of2 of5 = cond (eqb region 1) of1 (cond (eqb region 5) of5 of2)
 
--- the six properties
+-- the six properties, of w its square
+unfoldable pub unrootedAt : ℕ → Float → Float → Unrooted
+unrootedAt region p t = byRegion region (unrootedOf1 p t (gamma1 p t)) (unrootedOf2 p t (gamma2 p t)) (unrootedOf5 p t (gamma5 p t))
+
+-- with w itself
 unfoldable pub stateAt : ℕ → Float → Float → State
-stateAt region p t = byRegion region (state1 p t) (state2 p t) (state5 p t)
+stateAt region p t = rootedOf (unrootedAt region p t)
 
 -- α and κ of 001
 unfoldable pub responseAt : ℕ → Float → Float → Response
 responseAt region p t = byRegion region (responseOf1 p t (gamma1 p t)) (responseOf2 p t (gamma2 p t)) (responseOf5 p t (gamma5 p t))
 
--- both of them
+-- what is worked at once
 unfoldable pub workedAt : ℕ → Float → Float → Worked
-workedAt region p t = record { state = stateAt region p t; response = responseAt region p t }
+workedAt region p t = record { unrooted = unrootedAt region p t; response = responseAt region p t }
 
 -- of an h and an s, the one that is given
 unfoldable pub givenOf : Given → Float → Float → Float

@@ -10,10 +10,11 @@ pub use marks::both_near;
 pub use marks::full_at;
 pub use marks::full_marked;
 pub use marks::full_marked_both;
+pub use marks::handed_out;
 pub use marks::marked;
 pub use mixing::wet_at;
-use properties::Response;
 use properties::State;
+pub use worked::Worked;
 pub use worked::property;
 
 // Which property a query gives beside p.
@@ -31,10 +32,13 @@ pub struct Single {
     pub verified: bool,
 }
 
-// A state with what its derivatives need besides, from one working of the sums.
+// A state as it is carried until it is handed out or derived.
 pub struct Full {
-    pub single: Single,
-    pub response: Response,
+    pub region: u64,
+    pub p: f64,
+    pub t: f64,
+    pub worked: Worked,
+    pub verified: bool,
 }
 
 // A wet state of quality x, which has no cp and no w.

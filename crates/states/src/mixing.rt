@@ -4,9 +4,10 @@ use crate::Wet;
 use crate::marks::verified;
 use crate::worked::given_of;
 use liquid::Region1;
-use properties::State;
+use properties::Unrooted;
 use vapour::Region2;
 ghost use mathlib.Core.Path.{_≡_};
+ghost use Rattle.properties.specs.Properties.{rootedOf};
 ghost use Rattle.states.specs.Mixing.{mixed, mixtureOf, wetOf};
 
 // a' + x·(a'' - a').
@@ -17,8 +18,8 @@ fn mixed(x: f64, liquid: f64, vapour: f64) -> f64
 }
 
 // The wet state at p and its Ts that has the h or s asked.
-fn mixture(given: Given, p: f64, y: f64, t: f64, liquid: State, vapour: State) -> Wet
-    ensures { λ r. ⌜ r ≡ mixtureOf given p y t liquid vapour ⌝ }
+fn mixture(given: Given, p: f64, y: f64, t: f64, liquid: Unrooted, vapour: Unrooted) -> Wet
+    ensures { λ r. ⌜ r ≡ mixtureOf given p y t (rootedOf liquid) (rootedOf vapour) ⌝ }
 {
     let least = given_of(given, liquid.h, liquid.s);
     let most = given_of(given, vapour.h, vapour.s);
@@ -42,7 +43,7 @@ pub fn wet_at(given: Given, p: f64, y: f64) -> Wet
     ensures { λ r. ⌜ r ≡ wetOf given p y ⌝ }
 {
     let t = saturation::ts(p);
-    let liquid = Region1::state(p, t);
-    let vapour = Region2::state(p, t);
+    let liquid = Region1::unrooted_of(p, t, Region1::gamma(p, t));
+    let vapour = Region2::unrooted_of(p, t, Region2::gamma(p, t));
     mixture(given, p, y, t, liquid, vapour)
 }

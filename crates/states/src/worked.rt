@@ -2,15 +2,16 @@
 use crate::Given;
 use liquid::Region1;
 use properties::Response;
-use properties::State;
+use properties::Unrooted;
 use vapour::Region2;
 use vapour::Region5;
 ghost use mathlib.Core.Path.{_≡_};
 ghost use Rattle.states.specs.States.{workedAt, givenOf, propertyAt};
 
-// A state and how its volume answers to heat and pressure, from one working of the sums.
+// The six properties with w squared, and how the volume answers to heat and pressure: from one
+// working of the sums, what both a state and its derivatives are made of.
 pub struct Worked {
-    pub state: State,
+    pub unrooted: Unrooted,
     pub response: Response,
 }
 
@@ -19,7 +20,7 @@ fn worked_1(p: f64, t: f64) -> Worked
 {
     let g = Region1::gamma(p, t);
     Worked {
-        state: Region1::state_of(p, t, g),
+        unrooted: Region1::unrooted_of(p, t, g),
         response: Region1::response_of(p, t, g),
     }
 }
@@ -29,7 +30,7 @@ fn worked_2(p: f64, t: f64) -> Worked
 {
     let g = Region2::gamma(p, t);
     Worked {
-        state: Region2::state_of(p, t, g),
+        unrooted: Region2::unrooted_of(p, t, g),
         response: Region2::response_of(p, t, g),
     }
 }
@@ -39,12 +40,12 @@ fn worked_5(p: f64, t: f64) -> Worked
 {
     let g = Region5::gamma(p, t);
     Worked {
-        state: Region5::state_of(p, t, g),
+        unrooted: Region5::unrooted_of(p, t, g),
         response: Region5::response_of(p, t, g),
     }
 }
 
-// The state in a region at p and T.
+// What is worked in a region at p and T.
 pub(crate) fn worked_at(region: u64, p: f64, t: f64) -> Worked
     ensures { λ r. ⌜ r ≡ workedAt region p t ⌝ }
 {

@@ -37,9 +37,8 @@ fn agreed(region: u64, p: f64, t: f64, h: f64, s: f64) -> Outcome
 {
     if is_in(region, place_pt(p, t)) {
         let a = full_marked_both(region, p, t, h, s);
-        let single = a.single;
-        let state = single.state;
-        if both_near(0.2, 0.0005, state, h, s) {
+        let unrooted = a.worked.unrooted;
+        if both_near(0.2, 0.0005, unrooted, h, s) {
             return Outcome::Single(a);
         }
         return Outcome::Refused(7);

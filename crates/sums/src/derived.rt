@@ -14,11 +14,7 @@ fn of_outcome(o: Outcome, z: u64, x: u64, y: u64) -> Derivative
     ensures { λ r. ⌜ r ≡ quotientCarried o z x y ⌝ }
 {
     match o {
-        Outcome::Single(a) => {
-            let single = a.single;
-            let response = a.response;
-            slopes::quotient(single, response, z, x, y)
-        }
+        Outcome::Single(a) => slopes::quotient(a, z, x, y),
         Outcome::Wet(_) => Derivative::Refused(8),
         Outcome::Refused(n) => Derivative::Refused(n),
     }

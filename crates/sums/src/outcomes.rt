@@ -1,4 +1,4 @@
-// Queries from the inside: an answer together with what a derivative of it needs
+// Queries from the inside: an answer as it is carried, with what a derivative of it needs
 // (specs/Queries.antt, specs/Outcomes.antt).
 use crate::Answer;
 use crate::candidates::candidate;
@@ -11,6 +11,7 @@ use states::Given;
 use states::Wet;
 use states::full_at;
 use states::full_marked;
+use states::handed_out;
 use states::wet_at;
 ghost use mathlib.Core.Path.{_≡_};
 ghost use Rattle.sums.specs.Queries.{temperatureOf, answerPT, answerPY, answerHS, answerOf};
@@ -27,10 +28,7 @@ pub(crate) fn shown(o: Outcome) -> Answer
     ensures { λ r. ⌜ r ≡ shownOf o ⌝ }
 {
     match o {
-        Outcome::Single(a) => {
-            let single = a.single;
-            Answer::Single(single)
-        }
+        Outcome::Single(a) => Answer::Single(handed_out(a)),
         Outcome::Wet(a) => Answer::Wet(a),
         Outcome::Refused(n) => Answer::Refused(n),
     }
@@ -41,7 +39,9 @@ pub(crate) fn of_pt(p: f64, t: f64) -> Outcome
     ensures { λ r. ⌜ r ≡ outcomeOf (answerPT p t) ⌝ }
 {
     match place_pt(p, t) {
-        Place::Region(n) => Outcome::Single(full_at(n, p, t)),
+        Place::Region(n) => {
+            return Outcome::Single(full_at(n, p, t));
+        }
         Place::Refused(n) => Outcome::Refused(n),
     }
 }
@@ -72,7 +72,7 @@ pub(crate) fn of_py(given: Given, p: f64, y: f64) -> Outcome
                 return Outcome::Wet(wet_at(given, p, y));
             }
             let t = temperature(given, n, p, y);
-            Outcome::Single(full_marked(given, n, p, y, t))
+            return Outcome::Single(full_marked(given, n, p, y, t));
         }
         Place::Refused(n) => Outcome::Refused(n),
     }

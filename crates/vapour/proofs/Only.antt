@@ -5,6 +5,8 @@ use Rattle.vapour.proofs.region2.Region2.point.Kinds as point-2-kinds
 use Rattle.vapour.proofs.region2.Region2.point.Reads as point-2
 use Rattle.vapour.proofs.region2.Region2.gamma.Kinds as gamma-2-kinds
 use Rattle.vapour.proofs.region2.Region2.gamma.Reads as gamma-2
+use Rattle.vapour.proofs.region2.Region2.unrooted_of.Kinds as unrooted-of-2-kinds
+use Rattle.vapour.proofs.region2.Region2.unrooted_of.Reads as unrooted-of-2
 use Rattle.vapour.proofs.region2.Region2.state_of.Kinds as state-of-2-kinds
 use Rattle.vapour.proofs.region2.Region2.state_of.Reads as state-of-2
 use Rattle.vapour.proofs.region2.Region2.state.Kinds as state-2-kinds
@@ -19,6 +21,8 @@ use Rattle.vapour.proofs.region5.Region5.point.Kinds as point-5-kinds
 use Rattle.vapour.proofs.region5.Region5.point.Reads as point-5
 use Rattle.vapour.proofs.region5.Region5.gamma.Kinds as gamma-5-kinds
 use Rattle.vapour.proofs.region5.Region5.gamma.Reads as gamma-5
+use Rattle.vapour.proofs.region5.Region5.unrooted_of.Kinds as unrooted-of-5-kinds
+use Rattle.vapour.proofs.region5.Region5.unrooted_of.Reads as unrooted-of-5
 use Rattle.vapour.proofs.region5.Region5.state_of.Kinds as state-of-5-kinds
 use Rattle.vapour.proofs.region5.Region5.state_of.Reads as state-of-5
 use Rattle.vapour.proofs.region5.Region5.state.Kinds as state-5-kinds
@@ -35,6 +39,9 @@ point-2-only κs a x y s t p q = p ∙ sym q
 
 pub gamma-2-only : Only 0 gamma-2-kinds.ps gamma-2-kinds.r gamma-2.Post
 gamma-2-only κs a x y s t p q = p ∙ sym q
+
+pub unrooted-of-2-only : Only 0 unrooted-of-2-kinds.ps unrooted-of-2-kinds.r unrooted-of-2.Post
+unrooted-of-2-only κs a x y s t p q = p ∙ sym q
 
 pub state-of-2-only : Only 0 state-of-2-kinds.ps state-of-2-kinds.r state-of-2.Post
 state-of-2-only κs a x y s t p q = p ∙ sym q
@@ -56,6 +63,9 @@ point-5-only κs a x y s t p q = p ∙ sym q
 
 pub gamma-5-only : Only 0 gamma-5-kinds.ps gamma-5-kinds.r gamma-5.Post
 gamma-5-only κs a x y s t p q = p ∙ sym q
+
+pub unrooted-of-5-only : Only 0 unrooted-of-5-kinds.ps unrooted-of-5-kinds.r unrooted-of-5.Post
+unrooted-of-5-only κs a x y s t p q = p ∙ sym q
 
 pub state-of-5-only : Only 0 state-of-5-kinds.ps state-of-5-kinds.r state-of-5.Post
 state-of-5-only κs a x y s t p q = p ∙ sym q

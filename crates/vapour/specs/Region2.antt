@@ -8,9 +8,10 @@ use Rattle.arith.specs.Printed.{less, printed}
 use Rattle.terms.specs.Sum.{Term, row}
 use Rattle.terms.specs.Six.{sixOf}
 use Rattle.arith.specs.Coefficients.{plus, minus}
-use Rattle.properties.specs.Properties.{reducedBy}
-use Rattle.vapour.specs.Vapour.{vapourOf, vapourState, vapourResponse}
+use Rattle.properties.specs.Properties.{reducedBy, rootedOf}
+use Rattle.vapour.specs.Vapour.{vapourOf, vapourUnrooted, vapourResponse}
 use Rattle.properties.specs.declared.State.{State}
+use Rattle.properties.specs.declared.Unrooted.{Unrooted}
 use Rattle.properties.specs.declared.Response.{Response}
 use Rattle.properties.specs.declared.Point.{Point}
 use Rattle.vapour.specs.declared.Vapour.{Vapour}
@@ -86,8 +87,12 @@ unfoldable pub gamma2 : Float → Float → Vapour
 gamma2 p t = let x = point2 p t in vapourOf (x .pi) (sixOf ideal2 (x .pi) (x .tau)) (sixOf residual2 (x .pi) (x .tau ⊖ printed false 5 (less 1)))
 
 -- Table 4
+unfoldable pub unrootedOf2 : Float → Float → Vapour → Unrooted
+unrootedOf2 p t γ = vapourUnrooted (point2 p t) γ
+
+-- with w itself
 unfoldable pub stateOf2 : Float → Float → Vapour → State
-stateOf2 p t γ = vapourState (point2 p t) γ
+stateOf2 p t γ = rootedOf (unrootedOf2 p t γ)
 
 -- The state at p and T
 unfoldable pub state2 : Float → Float → State

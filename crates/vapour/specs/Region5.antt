@@ -8,9 +8,10 @@ use Rattle.arith.specs.Printed.{less, printed}
 use Rattle.terms.specs.Sum.{Term, row}
 use Rattle.terms.specs.Six.{sixOf}
 use Rattle.arith.specs.Coefficients.{plus, minus}
-use Rattle.properties.specs.Properties.{reducedBy}
-use Rattle.vapour.specs.Vapour.{vapourOf, vapourState, vapourResponse}
+use Rattle.properties.specs.Properties.{reducedBy, rootedOf}
+use Rattle.vapour.specs.Vapour.{vapourOf, vapourUnrooted, vapourResponse}
 use Rattle.properties.specs.declared.State.{State}
+use Rattle.properties.specs.declared.Unrooted.{Unrooted}
 use Rattle.properties.specs.declared.Response.{Response}
 use Rattle.properties.specs.declared.Point.{Point}
 use Rattle.vapour.specs.declared.Vapour.{Vapour}
@@ -45,8 +46,12 @@ unfoldable pub gamma5 : Float → Float → Vapour
 gamma5 p t = let x = point5 p t in vapourOf (x .pi) (sixOf ideal5 (x .pi) (x .tau)) (sixOf residual5 (x .pi) (x .tau))
 
 -- Table 4
+unfoldable pub unrootedOf5 : Float → Float → Vapour → Unrooted
+unrootedOf5 p t γ = vapourUnrooted (point5 p t) γ
+
+-- with w itself
 unfoldable pub stateOf5 : Float → Float → Vapour → State
-stateOf5 p t γ = vapourState (point5 p t) γ
+stateOf5 p t γ = rootedOf (unrootedOf5 p t γ)
 
 -- The state at p and T
 unfoldable pub state5 : Float → Float → State

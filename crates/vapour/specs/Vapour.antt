@@ -4,8 +4,8 @@ use lib.Ieee.{Float}
 use Rattle.arith.specs.F64.{f64, _⊕_, _⊖_, _⊗_, _⊘_}
 use Rattle.arith.specs.Log.{logOf}
 use Rattle.terms.specs.declared.Six.{Six}
-use Rattle.properties.specs.Properties.{propertiesOf}
-use Rattle.properties.specs.declared.State.{State}
+use Rattle.properties.specs.Properties.{unrootedOf}
+use Rattle.properties.specs.declared.Unrooted.{Unrooted}
 use Rattle.properties.specs.declared.Response.{Response}
 use Rattle.properties.specs.declared.Point.{Point}
 use Rattle.vapour.specs.declared.Vapour.{Vapour}
@@ -27,12 +27,12 @@ vapourOf π ideal residual = record {
 }
 
 -- Table 4. w²/RT = (1 + 2·π·γʳπ + π²·γʳπ²) / ((1 - π²·γʳππ) + (1 + π·γʳπ - τ·π·γʳπτ)² / (τ²·γττ))
-unfoldable pub vapourState : Point → Vapour → State
-vapourState x γ =
+unfoldable pub vapourUnrooted : Point → Vapour → Unrooted
+vapourUnrooted x γ =
     let π = x .pi in
     let τ = x .tau in
     let d = f64 1 ⊕ π ⊗ γ .rp ⊖ τ ⊗ π ⊗ γ .rpt in
-    propertiesOf x (γ .g) (γ .gp) (γ .gt) (γ .gtt)
+    unrootedOf x (γ .g) (γ .gp) (γ .gt) (γ .gtt)
     ((f64 1 ⊕ f64 2 ⊗ π ⊗ γ .rp ⊕ π ⊗ π ⊗ (γ .rp ⊗ γ .rp)) ⊘ (f64 1 ⊖ π ⊗ π ⊗ γ .rpp ⊕ d ⊗ d ⊘ (τ ⊗ τ ⊗ γ .gtt)))
 
 -- 001: α = (1/T)·((1 + π·γʳπ - τ·π·γʳπτ)/(1 + π·γʳπ)) and κ = (1/P)·((1 - π²·γʳππ)/(1 + π·γʳπ)), with P = 1000·p in kPa

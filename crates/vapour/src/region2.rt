@@ -4,13 +4,15 @@ use crate::Vapour;
 use crate::vapours::added;
 use crate::vapours::gibbs;
 use crate::vapours::response_at;
-use crate::vapours::state_at;
+use crate::vapours::unrooted_at;
 use properties::Point;
 use properties::Response;
 use properties::State;
+use properties::Unrooted;
 use properties::enthalpy;
 use properties::entropy;
 use properties::reduced;
+use properties::rooted;
 use terms::Six;
 ghost use mathlib.Core.Path.{_≡_};
 ghost use mathlib.Core.Bool.{false};
@@ -18,7 +20,7 @@ ghost use Rattle.arith.specs.F64.{_⊖_};
 ghost use Rattle.arith.specs.Printed.{less, printed};
 ghost use Rattle.terms.specs.Sum.{sumOf};
 ghost use Rattle.terms.specs.Six.{sixOf};
-ghost use Rattle.vapour.specs.Region2.{ideal2, residual2, point2, gamma2, stateOf2, state2, responseOf2, h2, s2};
+ghost use Rattle.vapour.specs.Region2.{ideal2, residual2, point2, gamma2, unrootedOf2, stateOf2, state2, responseOf2, h2, s2};
 
 const IDEAL_I: [i8; 9] = [0, 0, 0, 0, 0, 0, 0, 0, 0];
 
@@ -243,11 +245,18 @@ impl Region2 {
         added(x.pi, ideal, residual)
     }
 
+    // The six properties with w squared, from what gamma gave for p and t.
+    pub fn unrooted_of(p: f64, t: f64, g: Vapour) -> Unrooted
+        ensures { λ r. ⌜ r ≡ unrootedOf2 p t g ⌝ }
+    {
+        unrooted_at(Self::point(p, t), g)
+    }
+
     // The six properties from what gamma gave for p and t.
     pub fn state_of(p: f64, t: f64, g: Vapour) -> State
         ensures { λ r. ⌜ r ≡ stateOf2 p t g ⌝ }
     {
-        state_at(Self::point(p, t), g)
+        rooted(Self::unrooted_of(p, t, g))
     }
 
     // The six properties.

@@ -4,18 +4,20 @@ use crate::Vapour;
 use crate::vapours::added;
 use crate::vapours::gibbs;
 use crate::vapours::response_at;
-use crate::vapours::state_at;
+use crate::vapours::unrooted_at;
 use properties::Point;
 use properties::Response;
 use properties::State;
+use properties::Unrooted;
 use properties::enthalpy;
 use properties::entropy;
 use properties::reduced;
+use properties::rooted;
 use terms::Six;
 ghost use mathlib.Core.Path.{_≡_};
 ghost use Rattle.terms.specs.Sum.{sumOf};
 ghost use Rattle.terms.specs.Six.{sixOf};
-ghost use Rattle.vapour.specs.Region5.{ideal5, residual5, point5, gamma5, stateOf5, state5, responseOf5, h5, s5};
+ghost use Rattle.vapour.specs.Region5.{ideal5, residual5, point5, gamma5, unrootedOf5, stateOf5, state5, responseOf5, h5, s5};
 
 const IDEAL_I: [i8; 6] = [0, 0, 0, 0, 0, 0];
 
@@ -111,11 +113,18 @@ impl Region5 {
         added(x.pi, ideal, residual)
     }
 
+    // The six properties with w squared, from what gamma gave for p and t.
+    pub fn unrooted_of(p: f64, t: f64, g: Vapour) -> Unrooted
+        ensures { λ r. ⌜ r ≡ unrootedOf5 p t g ⌝ }
+    {
+        unrooted_at(Self::point(p, t), g)
+    }
+
     // The six properties from what gamma gave for p and t.
     pub fn state_of(p: f64, t: f64, g: Vapour) -> State
         ensures { λ r. ⌜ r ≡ stateOf5 p t g ⌝ }
     {
-        state_at(Self::point(p, t), g)
+        rooted(Self::unrooted_of(p, t, g))
     }
 
     // The six properties.

@@ -2,11 +2,11 @@
 use crate::Vapour;
 use properties::Point;
 use properties::Response;
-use properties::State;
+use properties::Unrooted;
 use properties::from_gamma;
 use terms::Six;
 ghost use mathlib.Core.Path.{_≡_};
-ghost use Rattle.vapour.specs.Vapour.{gibbsOf, vapourOf, vapourState, vapourResponse};
+ghost use Rattle.vapour.specs.Vapour.{gibbsOf, vapourOf, vapourUnrooted, vapourResponse};
 
 // γ = γ° + γʳ, from the sum of each part.
 pub(crate) fn gibbs(pi: f64, ideal: f64, residual: f64) -> f64
@@ -30,9 +30,9 @@ pub(crate) fn added(pi: f64, ideal: Six, residual: Six) -> Vapour
     }
 }
 
-// The six properties.
-pub(crate) fn state_at(x: Point, g: Vapour) -> State
-    ensures { λ r. ⌜ r ≡ vapourState x g ⌝ }
+// The six properties with w squared.
+pub(crate) fn unrooted_at(x: Point, g: Vapour) -> Unrooted
+    ensures { λ r. ⌜ r ≡ vapourUnrooted x g ⌝ }
 {
     let d = 1.0 + x.pi * g.rp - x.tau * x.pi * g.rpt;
     let above = 1.0 + 2.0 * x.pi * g.rp + x.pi * x.pi * (g.rp * g.rp);

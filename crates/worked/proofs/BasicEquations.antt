@@ -10,11 +10,11 @@ use Rattle.arith.specs.Root.{rootOf, rootUnits, nearRoot, floorRoot, fourthRoot
 use Rattle.arith.specs.Log.{logOf, logUnits, partsOf, partsAt, logSum, series, ln2}
 use Rattle.terms.specs.Sum.{sumOf, sumFrom, plus, term, gone, scaled}
 use Rattle.terms.specs.Six.{sixOf}
-use Rattle.properties.specs.Properties.{propertiesOf}
-use Rattle.liquid.specs.Region1.{table1, point1, sum1, gamma1, stateOf1, state1}
-use Rattle.vapour.specs.Vapour.{vapourOf, vapourState}
-use Rattle.vapour.specs.Region2.{ideal2, residual2, point2, gamma2, stateOf2, state2}
-use Rattle.vapour.specs.Region5.{ideal5, residual5, point5, gamma5, stateOf5, state5}
+use Rattle.properties.specs.Properties.{unrootedOf, rootedOf}
+use Rattle.liquid.specs.Region1.{table1, point1, sum1, gamma1, unrootedOf1, stateOf1, state1}
+use Rattle.vapour.specs.Vapour.{vapourOf, vapourUnrooted}
+use Rattle.vapour.specs.Region2.{ideal2, residual2, point2, gamma2, unrootedOf2, stateOf2, state2}
+use Rattle.vapour.specs.Region5.{ideal5, residual5, point5, gamma5, unrootedOf5, stateOf5, state5}
 use Rattle.saturation.specs.Saturation.{psOf, tsOf}
 
 -- Table A3: p = 3 MPa, T = 300 K
@@ -26,7 +26,7 @@ pub region-1 : state1 (f64 3) (f64 300) ≡ record {
   cp = ofBits binary64 0x4010_b12a_1b21_85cd;
   w = ofBits binary64 0x4097_8ef4_f361_2581;
 }
-unfolding state1 stateOf1 gamma1 sum1 point1 table1 propertiesOf sumOf sumFrom plus term gone scaled powerOf raised add sub mul div neg round ofInt ofBits printed rootOf rootUnits nearRoot floorRoot
+unfolding state1 stateOf1 rootedOf unrootedOf1 gamma1 sum1 point1 table1 unrootedOf sumOf sumFrom plus term gone scaled powerOf raised add sub mul div neg round ofInt ofBits printed rootOf rootUnits nearRoot floorRoot
 region-1 = refl
 
 -- Table A6: p = 30 MPa, T = 700 K
@@ -38,7 +38,7 @@ pub region-2 : state2 (f64 30) (f64 700) ≡ record {
   cp = ofBits binary64 0x4024_b375_f164_9a48;
   w = ofBits binary64 0x407e_062f_32eb_527b;
 }
-unfolding state2 stateOf2 gamma2 point2 ideal2 residual2 vapourState vapourOf propertiesOf sixOf sumOf sumFrom plus term gone scaled powerOf raised logOf logUnits partsOf partsAt logSum series ln2 add sub mul div neg round ofInt ofBits printed rootOf rootUnits nearRoot floorRoot
+unfolding state2 stateOf2 rootedOf unrootedOf2 gamma2 point2 ideal2 residual2 vapourUnrooted vapourOf unrootedOf sixOf sumOf sumFrom plus term gone scaled powerOf raised logOf logUnits partsOf partsAt logSum series ln2 add sub mul div neg round ofInt ofBits printed rootOf rootUnits nearRoot floorRoot
 region-2 = refl
 
 -- Table A15: p = 8 MPa, T = 2000 K
@@ -50,7 +50,7 @@ pub region-5 : state5 (f64 8) (f64 2000) ≡ record {
   cp = ofBits binary64 0x4006_d315_0d79_c4e7;
   w = ofBits binary64 0x4090_796e_a689_b2f3;
 }
-unfolding state5 stateOf5 gamma5 point5 ideal5 residual5 vapourState vapourOf propertiesOf sixOf sumOf sumFrom plus term gone scaled powerOf raised logOf logUnits partsOf partsAt logSum series ln2 add sub mul div neg round ofInt ofBits printed rootOf rootUnits nearRoot floorRoot
+unfolding state5 stateOf5 rootedOf unrootedOf5 gamma5 point5 ideal5 residual5 vapourUnrooted vapourOf unrootedOf sixOf sumOf sumFrom plus term gone scaled powerOf raised logOf logUnits partsOf partsAt logSum series ln2 add sub mul div neg round ofInt ofBits printed rootOf rootUnits nearRoot floorRoot
 region-5 = refl
 
 -- P, in MPa

@@ -1,7 +1,7 @@
--- `properties::gibbs::from_gamma` meets its contract: each field is its formula, with what `enthalpy`, `entropy` and `root` promise. Assumes nothing.
+-- `properties::gibbs::from_gamma` meets its contract: each field is its formula, with what `enthalpy` and `entropy` promise. Assumes nothing.
 use lib.Ieee.{ofInt, ofBits}
 use borrow.Author.Needs.{needs}
-use Rattle.properties.specs.Properties.{propertiesOf}
+use Rattle.properties.specs.Properties.{unrootedOf}
 use Rattle.properties.proofs.gibbs.from_gamma.Statement.{statement}
 use Rattle.properties.proofs.gibbs.from_gamma.Tie as tie
 
@@ -11,12 +11,9 @@ enthalpy-requires c κs = search needs
 entropy-requires : tie.Need-entropy-requires
 entropy-requires c κs = search needs
 
-root-requires : tie.Need-root-requires
-root-requires c κs = search needs
-
 returns : tie.Need-returns
-unfolding propertiesOf ofInt ofBits
-returns c = let e = c .before .before .before in rw (c .root .ensures, e .entropy .ensures, e .before .enthalpy .ensures)
+unfolding unrootedOf ofInt ofBits
+returns c = let e = c .before .before in rw (e .entropy .ensures, e .before .enthalpy .ensures)
 
 pub from-gamma-spec : {M : Type 1} → statement M
-from-gamma-spec = tie.close (tie.spec enthalpy-requires entropy-requires root-requires returns)
+from-gamma-spec = tie.close (tie.spec enthalpy-requires entropy-requires returns)

@@ -1,28 +1,24 @@
--- `slopes::ratios::at` meets its contract: both determinants are made of the same two lists. Assumes nothing.
+-- `slopes::ratios::at` meets its contract: the numbers were judged, so each property has its changes, and the two determinants are made of them. Assumes nothing.
 use borrow.Author.Needs.{needs}
-use Prim.Native.Nat.{_≤_}
 use Rattle.slopes.specs.Slopes.{ratioAt}
 use Rattle.slopes.proofs.Known.{ranges}
 use Rattle.slopes.proofs.ratios.at.Statement.{statement}
 use Rattle.slopes.proofs.ratios.at.Tie as tie
 
-by-p-requires : tie.Need-by-p-requires
-by-p-requires c κs = search needs
+change-of-requires : tie.Need-change-of-requires
+change-of-requires c κs = ranges _ _ _ (c .pre) .of-y
 
-by-t-requires : tie.Need-by-t-requires
-by-t-requires c κs = search needs
+change-of-requires-2 : tie.Need-change-of-requires-2
+change-of-requires-2 c κs = ranges _ _ _ (c .before .pre) .of-z
 
 determinant-requires : tie.Need-determinant-requires
-determinant-requires c κs = let k = ranges _ _ _ (c .before .before .before .before .pre) in (k .of-z .0, k .of-z .1, k .of-y .0, k .of-y .1)
+determinant-requires c κs = search needs
+
+change-of-requires-3 : tie.Need-change-of-requires-3
+change-of-requires-3 c κs = ranges _ _ _ (c .before .before .before .pre) .of-x
 
 determinant-requires-2 : tie.Need-determinant-requires-2
-determinant-requires-2 c κs =
-    let k = ranges _ _ _ (c .before .before .before .before .before .before .before .pre) in (
-      k .of-x .0,
-      k .of-x .1,
-      k .of-y .0,
-      k .of-y .1,
-    )
+determinant-requires-2 c κs = search needs
 
 ratio-requires : tie.Need-ratio-requires
 ratio-requires c κs = search needs
@@ -33,18 +29,20 @@ returns c =
     rw (
       c .ratio .ensures,
       c .before .determinant2 .ensures,
-      c .before .before .before .before .determinant .ensures,
-      c .before .before .before .before .before .before .before .by-t .ensures,
-      c .before .before .before .before .before .before .before .before .by-p .ensures,
+      c .before .before .change-of3 .ensures,
+      c .before .before .before .determinant .ensures,
+      c .before .before .before .before .change-of2 .ensures,
+      c .before .before .before .before .before .change-of .ensures,
     )
 
 pub at-spec : {M : Type 1} → statement M
 at-spec =
     tie.close
     (tie.spec
-    by-p-requires
-    by-t-requires
+    change-of-requires
+    change-of-requires-2
     determinant-requires
+    change-of-requires-3
     determinant-requires-2
     ratio-requires
     returns)

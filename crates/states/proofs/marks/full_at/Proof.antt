@@ -1,6 +1,5 @@
 -- `states::marks::full_at` meets its contract: state and response are made of one working. Assumes nothing.
 use borrow.Author.Needs.{needs}
-use Rattle.states.specs.States.{workedAt}
 use Rattle.states.proofs.marks.full_at.Statement.{statement}
 use Rattle.states.proofs.marks.full_at.Tie as tie
 
@@ -11,7 +10,6 @@ with-mark-requires : tie.Need-with-mark-requires
 with-mark-requires c κs = search needs
 
 returns : tie.Need-returns
-unfolding workedAt
 returns c = rw (c .with-mark .ensures, c .before .worked-at .ensures)
 
 pub full-at-spec : {M : Type 1} → statement M

@@ -1,7 +1,8 @@
 -- `states::marks::full_marked` meets its contract: state, mark and response are made of one working. Assumes nothing.
 use borrow.Author.Needs.{needs}
 use Rattle.states.specs.Marks.{markedOf}
-use Rattle.states.specs.States.{workedAt}
+use Rattle.properties.specs.Properties.{rootedOf}
+use Rattle.states.specs.States.{stateAt, workedAt}
 use Rattle.states.proofs.marks.full_marked.Statement.{statement}
 use Rattle.states.proofs.marks.full_marked.Tie as tie
 
@@ -15,7 +16,7 @@ with-mark-requires : tie.Need-with-mark-requires
 with-mark-requires c κs = search needs
 
 returns : tie.Need-returns
-unfolding markedOf workedAt
+unfolding markedOf stateAt workedAt rootedOf
 returns c = rw (c .with-mark .ensures, c .before .verified .ensures, c .before .before .worked-at .ensures)
 
 pub full-marked-spec : {M : Type 1} → statement M

@@ -2,7 +2,7 @@
 use borrow.Author.Needs.{needs}
 use lib.Ieee.{round, ofBits}
 use Rattle.arith.specs.Printed.{printed}
-use Rattle.states.specs.States.{workedAt}
+use Rattle.states.specs.States.{stateAt, workedAt}
 use Rattle.states.proofs.marks.full_marked_both.Statement.{statement}
 use Rattle.states.proofs.marks.full_marked_both.Tie as tie
 
@@ -16,7 +16,7 @@ with-mark-requires : tie.Need-with-mark-requires
 with-mark-requires c κs = search needs
 
 returns : tie.Need-returns
-unfolding workedAt printed round ofBits
+unfolding stateAt workedAt printed round ofBits
 returns c = rw (c .with-mark .ensures, c .before .both-near .ensures, c .before .before .before .worked-at .ensures)
 
 pub full-marked-both-spec : {M : Type 1} → statement M

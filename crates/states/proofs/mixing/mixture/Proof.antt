@@ -1,5 +1,6 @@
 -- `states::mixing::mixture` meets its contract: each property is mixed by the one quality. Assumes nothing.
 use borrow.Author.Needs.{needs}
+use Rattle.properties.specs.Properties.{rootedOf}
 use Rattle.states.specs.Mixing.{mixtureOf}
 use Rattle.states.proofs.mixing.mixture.Statement.{statement}
 use Rattle.states.proofs.mixing.mixture.Tie as tie
@@ -26,7 +27,7 @@ verified-requires : tie.Need-verified-requires
 verified-requires c κs = search needs
 
 returns : tie.Need-returns
-unfolding mixtureOf
+unfolding mixtureOf rootedOf
 returns c =
     rw (
       c .verified .ensures,

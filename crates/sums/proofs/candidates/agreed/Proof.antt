@@ -3,6 +3,8 @@ use borrow.Author.Needs.{needs}
 use mathlib.Core.Path.{ap}
 use lib.Ieee.{round, ofBits}
 use Rattle.arith.specs.Printed.{printed}
+use Rattle.properties.specs.Properties.{rootedOf}
+use Rattle.states.specs.States.{stateAt, workedAt}
 use Rattle.states.specs.declared.Full.{Full}
 use Rattle.sums.specs.Queries.{agrees, agreedOf}
 use Rattle.sums.proofs.candidates.agreed.Statement.{statement}
@@ -21,27 +23,27 @@ both-near-requires : tie.Need-both-near-requires
 both-near-requires c κs = search needs
 
 returns : tie.Need-returns
-unfolding agrees agreedOf printed round ofBits
+unfolding agrees agreedOf stateAt workedAt printed round ofBits
 returns c =
-    let state = ap (λ (a : Full). a .single .state) (c .before .before .before .before .full-marked-both .ensures) in
+    let state = ap (λ (a : Full). rootedOf (a .worked .unrooted)) (c .before .before .before .full-marked-both .ensures) in
     rw (
-      ← c .before .before .before .before .before .before .before .place-pt .ensures,
-      ← c .before .before .before .before .before .before .is-in .ensures,
-      c .before .before .before .before .before .if1 .taken,
+      ← c .before .before .before .before .before .before .place-pt .ensures,
+      ← c .before .before .before .before .before .is-in .ensures,
+      c .before .before .before .before .if1 .taken,
       ← state,
       ← c .before .both-near .ensures,
       c .if2 .taken,
-      c .before .before .before .before .full-marked-both .ensures,
+      c .before .before .before .full-marked-both .ensures,
     )
 
 returns-2 : tie.Need-returns-2
-unfolding agrees agreedOf printed round ofBits
+unfolding agrees agreedOf stateAt workedAt printed round ofBits
 returns-2 c =
-    let state = ap (λ (a : Full). a .single .state) (c .before .before .before .before .full-marked-both .ensures) in
+    let state = ap (λ (a : Full). rootedOf (a .worked .unrooted)) (c .before .before .before .full-marked-both .ensures) in
     rw (
-      ← c .before .before .before .before .before .before .before .place-pt .ensures,
-      ← c .before .before .before .before .before .before .is-in .ensures,
-      c .before .before .before .before .before .if1 .taken,
+      ← c .before .before .before .before .before .before .place-pt .ensures,
+      ← c .before .before .before .before .before .is-in .ensures,
+      c .before .before .before .before .if1 .taken,
       ← state,
       ← c .before .both-near .ensures,
       c .if2 .left,

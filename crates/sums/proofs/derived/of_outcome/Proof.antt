@@ -18,7 +18,7 @@ enum-known-o-2 c = search needs
 
 returns : tie.Need-returns
 unfolding derivativeAt
-returns c = rw (c .quotient .ensures, c .before .before .before .before .o .given .1, c .before .before .before .before .before .before .pre)
+returns c = rw (c .quotient .ensures, c .before .before .o .given .1, c .before .before .before .before .pre)
 
 returns-2 : tie.Need-returns-2
 returns-2 c = search needs

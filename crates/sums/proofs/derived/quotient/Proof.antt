@@ -2,6 +2,7 @@
 use borrow.Author.Needs.{needs}
 use mathlib.Core.Path.{sym, _∙_}
 use Rattle.sums.specs.Quotients.{quotientOf}
+use Rattle.sums.proofs.Forward.{forward}
 use Rattle.sums.proofs.Carried.{quotient-same}
 use Rattle.sums.proofs.derived.quotient.Statement.{statement}
 use Rattle.sums.proofs.derived.quotient.Tie as tie
@@ -21,7 +22,7 @@ returns c =
     rw (
       ← c .before .before .before .all-known .ensures,
       c .before .before .if1 .taken,
-      quotient-same,
+      quotient-same (forward _ _ _),
       ← c .before .of-kind .ensures,
     ) (c .of-outcome .ensures)
 

@@ -13,9 +13,6 @@ enum-known-n c = search needs
 full-at-requires : tie.Need-full-at-requires
 full-at-requires c κs = search needs
 
-enum-known-n-2 : tie.Need-enum-known-n-2
-enum-known-n-2 c = search needs
-
 returns : tie.Need-returns
 unfolding answerPT
 returns c =
@@ -25,6 +22,9 @@ returns c =
       c .before .before .n .given .1,
     )
 
+enum-known-n-2 : tie.Need-enum-known-n-2
+enum-known-n-2 c = search needs
+
 returns-2 : tie.Need-returns-2
 unfolding answerPT
 returns-2 c = rw (← c .before .before .before .place-pt .ensures, c .before .n2 .given .1)
@@ -32,4 +32,4 @@ returns-2 c = rw (← c .before .before .before .place-pt .ensures, c .before .n
 pub of-pt-spec : {M : Type 1} → statement M
 of-pt-spec =
     tie.close
-    (tie.spec place-pt-requires enum-known-n full-at-requires enum-known-n-2 returns returns-2)
+    (tie.spec place-pt-requires enum-known-n full-at-requires returns enum-known-n-2 returns-2)

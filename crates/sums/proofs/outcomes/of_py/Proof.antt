@@ -30,9 +30,6 @@ temperature-requires c κs = search needs
 full-marked-requires : tie.Need-full-marked-requires
 full-marked-requires c κs = search needs
 
-enum-known-n-2 : tie.Need-enum-known-n-2
-enum-known-n-2 c = search needs
-
 returns-2 : tie.Need-returns-2
 unfolding answerPY
 returns-2 c =
@@ -43,6 +40,9 @@ returns-2 c =
       c .before .before .before .before .n .given .1,
       ne-eqb _ _ (c .before .before .if1 .left),
     )
+
+enum-known-n-2 : tie.Need-enum-known-n-2
+enum-known-n-2 c = search needs
 
 returns-3 : tie.Need-returns-3
 unfolding answerPY
@@ -58,6 +58,6 @@ of-py-spec =
     returns
     temperature-requires
     full-marked-requires
-    enum-known-n-2
     returns-2
+    enum-known-n-2
     returns-3)

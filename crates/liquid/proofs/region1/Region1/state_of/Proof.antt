@@ -1,19 +1,18 @@
--- `liquid::region1::Region1::state_of` meets its contract: the quotient is Table 2's, and the rest is what `point` and `from_gamma` promise. Assumes
--- nothing.
+-- `liquid::region1::Region1::state_of` meets its contract: it is what `unrooted_of` and `rooted` promise. Assumes nothing.
 use borrow.Author.Needs.{needs}
 use Rattle.liquid.specs.Region1.{stateOf1}
 use Rattle.liquid.proofs.region1.Region1.state_of.Statement.{statement}
 use Rattle.liquid.proofs.region1.Region1.state_of.Tie as tie
 
-point-requires : tie.Need-point-requires
-point-requires c κs = search needs
+unrooted-of-requires : tie.Need-unrooted-of-requires
+unrooted-of-requires c κs = search needs
 
-from-gamma-requires : tie.Need-from-gamma-requires
-from-gamma-requires c κs = search needs
+rooted-requires : tie.Need-rooted-requires
+rooted-requires c κs = search needs
 
 returns : tie.Need-returns
 unfolding stateOf1
-returns c = rw (c .from-gamma .ensures, c .before .before .before .before .before .before .before .before .point .ensures)
+returns c = rw (c .rooted .ensures, c .before .unrooted-of .ensures)
 
 pub state-of-spec : {M : Type 1} → statement M
-state-of-spec = tie.close (tie.spec point-requires from-gamma-requires returns)
+state-of-spec = tie.close (tie.spec unrooted-of-requires rooted-requires returns)

@@ -1,9 +1,9 @@
 -- `vapour::region2::Region2::h` meets its contract: the state's h takes of γ no more than γτ. Assumes nothing.
 use borrow.Author.Needs.{needs}
 use Rattle.terms.specs.Six.{sixOf}
-use Rattle.properties.specs.Properties.{propertiesOf}
-use Rattle.vapour.specs.Region2.{state2, stateOf2, gamma2}
-use Rattle.vapour.specs.Vapour.{vapourState, vapourOf}
+use Rattle.properties.specs.Properties.{unrootedOf, rootedOf}
+use Rattle.vapour.specs.Region2.{state2, stateOf2, unrootedOf2, gamma2}
+use Rattle.vapour.specs.Vapour.{vapourUnrooted, vapourOf}
 use Rattle.vapour.proofs.region2.Region2.h.Statement.{statement}
 use Rattle.vapour.proofs.region2.Region2.h.Tie as tie
 
@@ -20,7 +20,7 @@ enthalpy-requires : tie.Need-enthalpy-requires
 enthalpy-requires c κs = search needs
 
 returns : tie.Need-returns
-unfolding state2 stateOf2 vapourState propertiesOf gamma2 vapourOf sixOf
+unfolding state2 stateOf2 rootedOf unrootedOf2 vapourUnrooted unrootedOf gamma2 vapourOf sixOf
 returns c =
     rw (
       c .enthalpy .ensures,

@@ -1,14 +1,14 @@
 -- `vapour::region2::Region2::s` meets its contract: the state's s takes of γ no more than γ and γτ. Assumes nothing.
 use borrow.Author.Needs.{needs}
 use Rattle.terms.specs.Six.{sixOf}
-use Rattle.properties.specs.Properties.{propertiesOf}
-use Rattle.vapour.specs.Region2.{state2, stateOf2, gamma2}
-use Rattle.vapour.specs.Vapour.{vapourState, vapourOf}
+use Rattle.properties.specs.Properties.{unrootedOf, rootedOf}
+use Rattle.vapour.specs.Region2.{state2, stateOf2, unrootedOf2, gamma2}
+use Rattle.vapour.specs.Vapour.{vapourUnrooted, vapourOf}
 use Rattle.vapour.proofs.region2.Region2.s.Statement.{statement}
 use Rattle.vapour.proofs.region2.Region2.s.Tie as tie
 
 returns : tie.Need-returns
-unfolding state2 stateOf2 vapourState propertiesOf gamma2 vapourOf sixOf
+unfolding state2 stateOf2 rootedOf unrootedOf2 vapourUnrooted unrootedOf gamma2 vapourOf sixOf
 returns c =
     rw (
       c .entropy .ensures,

@@ -1,18 +1,18 @@
--- `vapour::region2::Region2::state_of` meets its contract: it is what `point` and `state_at` promise. Assumes nothing.
+-- `vapour::region2::Region2::state_of` meets its contract: it is what `unrooted_of` and `rooted` promise. Assumes nothing.
 use borrow.Author.Needs.{needs}
 use Rattle.vapour.specs.Region2.{stateOf2}
 use Rattle.vapour.proofs.region2.Region2.state_of.Statement.{statement}
 use Rattle.vapour.proofs.region2.Region2.state_of.Tie as tie
 
-point-requires : tie.Need-point-requires
-point-requires c κs = search needs
+unrooted-of-requires : tie.Need-unrooted-of-requires
+unrooted-of-requires c κs = search needs
 
-state-at-requires : tie.Need-state-at-requires
-state-at-requires c κs = search needs
+rooted-requires : tie.Need-rooted-requires
+rooted-requires c κs = search needs
 
 returns : tie.Need-returns
 unfolding stateOf2
-returns c = rw (c .state-at .ensures, c .before .point .ensures)
+returns c = rw (c .rooted .ensures, c .before .unrooted-of .ensures)
 
 pub state-of-spec : {M : Type 1} → statement M
-state-of-spec = tie.close (tie.spec point-requires state-at-requires returns)
+state-of-spec = tie.close (tie.spec unrooted-of-requires rooted-requires returns)

@@ -1,14 +1,14 @@
 -- `vapour::region5::Region5::s` meets its contract: the state's s takes of γ no more than γ and γτ. Assumes nothing.
 use borrow.Author.Needs.{needs}
 use Rattle.terms.specs.Six.{sixOf}
-use Rattle.properties.specs.Properties.{propertiesOf}
-use Rattle.vapour.specs.Region5.{state5, stateOf5, gamma5}
-use Rattle.vapour.specs.Vapour.{vapourState, vapourOf}
+use Rattle.properties.specs.Properties.{unrootedOf, rootedOf}
+use Rattle.vapour.specs.Region5.{state5, stateOf5, unrootedOf5, gamma5}
+use Rattle.vapour.specs.Vapour.{vapourUnrooted, vapourOf}
 use Rattle.vapour.proofs.region5.Region5.s.Statement.{statement}
 use Rattle.vapour.proofs.region5.Region5.s.Tie as tie
 
 returns : tie.Need-returns
-unfolding state5 stateOf5 vapourState propertiesOf gamma5 vapourOf sixOf
+unfolding state5 stateOf5 rootedOf unrootedOf5 vapourUnrooted unrootedOf gamma5 vapourOf sixOf
 returns c =
     rw (
       c .entropy .ensures,

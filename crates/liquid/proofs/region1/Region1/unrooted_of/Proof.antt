@@ -1,0 +1,19 @@
+-- `liquid::region1::Region1::unrooted_of` meets its contract: the quotient is Table 2's, and the rest is what `point` and `from_gamma` promise. Assumes
+-- nothing.
+use borrow.Author.Needs.{needs}
+use Rattle.liquid.specs.Region1.{unrootedOf1}
+use Rattle.liquid.proofs.region1.Region1.unrooted_of.Statement.{statement}
+use Rattle.liquid.proofs.region1.Region1.unrooted_of.Tie as tie
+
+point-requires : tie.Need-point-requires
+point-requires c κs = search needs
+
+from-gamma-requires : tie.Need-from-gamma-requires
+from-gamma-requires c κs = search needs
+
+returns : tie.Need-returns
+unfolding unrootedOf1
+returns c = rw (c .from-gamma .ensures, c .before .before .before .before .before .before .before .before .point .ensures)
+
+pub unrooted-of-spec : {M : Type 1} → statement M
+unrooted-of-spec = tie.close (tie.spec point-requires from-gamma-requires returns)
