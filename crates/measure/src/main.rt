@@ -38,12 +38,26 @@ fn derived(d: Derivative) -> f64 {
     }
 }
 
-// The derivative of v or u by g or f at constant p or T: x decides which.
-fn some_quotient(kind: u64, x: f64, y: f64) -> Derivative {
-    let z = if x < 1.0 { 3 } else { 4 };
-    let by = if x < 2.0 { 7 } else { 8 };
-    let constant = if x < 0.5 { 1 } else { 2 };
-    sums::quotient(kind, x, y, z, by, constant)
+// The numbers of three properties.
+struct Three {
+    z: u64,
+    x: u64,
+    y: u64,
+}
+
+// v by g at constant p, or u by f at constant T: x decides which.
+fn three_of(x: f64) -> Three {
+    if x < 1.0 {
+        Three { z: 3, x: 7, y: 1 }
+    } else {
+        Three { z: 4, x: 8, y: 2 }
+    }
+}
+
+// The derivative by these.
+fn some_quotient(kind: u64, a: f64, b: f64) -> Derivative {
+    let n = three_of(a);
+    sums::quotient(kind, a, b, n.z, n.x, n.y)
 }
 
 // The value of one query at x. Of a derivative, the three properties are part of what it is.
