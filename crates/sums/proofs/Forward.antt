@@ -12,7 +12,7 @@ use Rattle.places.specs.declared.Place.the-variants as Place
 use Rattle.places.specs.Places.{wild, pTriple, placePT, placePY}
 use Rattle.sums.specs.declared.Answer.{Answer}
 use Rattle.sums.specs.declared.Answer.the-variants as Answer
-use Rattle.sums.specs.Queries.{placedPT, answerPT, placedPY, answerPY, pressureOf, temperatureOf, agrees, agreedOf, candidateOf, firstOf, answerHS, answerOf}
+use Rattle.sums.specs.Queries.{placedPT, answerPT, placedPY, answerPY, pressureOf, agrees, agreedOf, candidateOf, firstOf, answerHS, answerOf}
 
 pub data Forward : Answer → Type 0 where
   single : {region : ℕ} {p t : Float} {verified : Bool} → Forward (Answer.Single (singleOf region p t verified))
@@ -46,9 +46,7 @@ agreed region p t h s = either (agrees region p t h s) single refused
 
 candidate : (region : ℕ) (h s : Float) → Forward (candidateOf region h s)
 unfolding candidateOf
-candidate region h s =
-    let p = pressureOf region h s in
-    either (le pTriple p) (agreed region p (temperatureOf Enthalpy region p h) h s) refused
+candidate region h s = either (le pTriple (pressureOf region h s)) (agreed region _ _ h s) refused
 
 first : {a b : Answer} → Forward a → Forward b → Forward (firstOf a b)
 first single k = single

@@ -34,7 +34,8 @@ pub(crate) fn shown(o: Outcome) -> Answer
     }
 }
 
-// From p in MPa and T in K.
+// From p in MPa and T in K. Here and below a state is returned from where it is made, which spares
+// its copy to where the arms meet.
 pub(crate) fn of_pt(p: f64, t: f64) -> Outcome
     ensures { λ r. ⌜ r ≡ outcomeOf (answerPT p t) ⌝ }
 {
