@@ -45,12 +45,12 @@ struct Three {
     y: u64,
 }
 
-// v by g at constant p, or u by f at constant T: x decides which.
+// h by T at constant p, or u by s at constant v: x decides which.
 fn three_of(x: f64) -> Three {
     if x < 1.0 {
-        Three { z: 3, x: 7, y: 1 }
+        Three { z: 5, x: 2, y: 1 }
     } else {
-        Three { z: 4, x: 8, y: 2 }
+        Three { z: 4, x: 6, y: 3 }
     }
 }
 
