@@ -1,18 +1,14 @@
 // A feedwater heater: bled steam warms the feedwater and leaves as its drain. It asks for its water in
-// directly and posts three queries (p,h): 0 the bled steam, 1 the drain, 2 the water out. It knows its
-// own tickets and nothing of who else posts.
+// directly and then, all at once, for three states (p,h): the bled steam, the drain and the water out.
+// All that reaches the heater is its own numbers and the states that it asked for: there is no desk
+// here and no other model.
 mod places;
 
-ghost use Prim.Native.Nat.{_<_};
-use crate::heater::places::Place;
 use crate::model;
+use crate::model::Asks;
 use crate::model::Known;
 use crate::model::Output;
-use crate::model::Ticket;
-use desk::Desk;
-
-// The number by which the desk knows the heater.
-const CALLER: u64 = 5;
+pub(crate) use places::Place;
 
 // How much feedwater flows through the heater, in kg/s.
 const WATER_FLOW: f64 = 50.0;
@@ -35,36 +31,20 @@ const STEAM_H: f64 = 2900.0;
 // The enthalpy of the drain, in kJ/kg.
 const DRAIN_H: f64 = 650.0;
 
-// Whether the heater still runs, that is no call of its was refused; the enthalpy of its water in, in
-// kJ/kg; the tickets of its three queries; and where in its room its next line goes.
+// How many states the heater still waits for, none once it was refused; the enthalpy of its water in,
+// in kJ/kg; and where in its room its next line goes.
 pub struct Heater {
-    pub runs: bool,
+    pub waits_for: u64,
     pub h_in: f64,
-    pub tickets: [u64; 3],
     pub next_line: usize,
 }
 
-// The heater and the desk that it was lent.
-pub struct AtDesk {
-    pub desk: Desk,
-    pub heater: Heater,
-}
-
-// The place that query i asks about.
-fn place(i: usize) -> Place {
-    match i {
-        0 => Place::BledSteam,
-        1 => Place::Drain,
-        _ => Place::WaterOut,
-    }
-}
-
-// The pressure there, in MPa.
-fn pressure(i: usize) -> f64 {
-    match i {
-        0 => BLED_P,
-        1 => BLED_P,
-        _ => WATER_P,
+// A heater that is not there: it asks nothing and says nothing.
+pub(crate) fn absent() -> Heater {
+    Heater {
+        waits_for: 0,
+        h_in: 0.0,
+        next_line: 0,
     }
 }
 
@@ -73,19 +53,10 @@ fn heat() -> f64 {
     BLED_FLOW * (STEAM_H - DRAIN_H)
 }
 
-// The enthalpy there, in kJ/kg.
-fn enthalpy(i: usize, h_in: f64) -> f64 {
-    match i {
-        0 => STEAM_H,
-        1 => DRAIN_H,
-        _ => h_in + heat() / WATER_FLOW,
-    }
-}
-
-// What the heater gives there: heat, to the water out.
-fn given(i: usize) -> Output {
-    match i {
-        2 => Output::Heat(heat() / model::KW_IN_MW),
+// What the heater gives off at a place: heat, to the water out.
+fn given(place: Place) -> Output {
+    match place {
+        Place::WaterOut => Output::Heat(heat() / model::KW_IN_MW),
         _ => Output::Nothing,
     }
 }
@@ -101,95 +72,60 @@ fn say(heater: Heater, place: Place, known: Known, given: Output, text: &mut [u8
 // The heater stops at a refusal, and says so.
 fn stop(heater: Heater, place: Place, number: u64, text: &mut [u8]) -> Heater {
     let mut stopped = say(heater, place, Known::Refused(number), Output::Nothing, text);
-    stopped.runs = false;
+    stopped.waits_for = 0;
     stopped
 }
 
 // The heater with its water in, whose state is asked for directly.
 pub(crate) fn water_in(text: &mut [u8]) -> Heater {
-    let none = [0u64; 3];
-    let mut heater = Heater {
-        runs: true,
-        h_in: 0.0,
-        tickets: none,
-        next_line: 0,
-    };
     let known = model::ask(WATER_P, WATER_IN_T);
     match known {
+        Known::Refused(number) => stop(absent(), Place::WaterIn, number, text),
         Known::State(single) => {
             let properties = single.state;
-            heater.h_in = properties.h;
+            let heater = Heater {
+                waits_for: 3,
+                h_in: properties.h,
+                next_line: 0,
+            };
             say(heater, Place::WaterIn, known, Output::Nothing, text)
         }
-        Known::Refused(number) => stop(heater, Place::WaterIn, number, text),
     }
 }
 
-// Posts query i.
-fn post_one(lent: AtDesk, i: usize, text: &mut [u8]) -> AtDesk
-    requires { ⌜ i < 3 ⌝ }
-{
-    let mut heater = lent.heater;
-    if !heater.runs {
-        return lent;
+// What the heater asks of a place as long as it waits for states.
+pub(crate) fn asks(heater: Heater, place: Place) -> Asks {
+    if heater.waits_for == 0 {
+        return Asks::Nothing;
     }
-    let desk = lent.desk;
-    let posted = model::post(
-        desk,
-        CALLER,
-        model::P_H,
-        pressure(i),
-        enthalpy(i, heater.h_in),
-    );
-    let desk = posted.desk;
-    let ticket = posted.ticket;
-    match ticket {
-        Ticket::Open(number) => {
-            heater.tickets[i] = number;
-            AtDesk { desk, heater }
-        }
-        Ticket::Refused(number) => AtDesk {
-            desk,
-            heater: stop(heater, place(i), number, text),
+    match place {
+        Place::WaterIn => Asks::Nothing,
+        Place::BledSteam => Asks::ByEnthalpy {
+            p: BLED_P,
+            h: STEAM_H,
+        },
+        Place::Drain => Asks::ByEnthalpy {
+            p: BLED_P,
+            h: DRAIN_H,
+        },
+        Place::WaterOut => Asks::ByEnthalpy {
+            p: WATER_P,
+            h: heater.h_in + heat() / WATER_FLOW,
         },
     }
 }
 
-// Collects query i.
-fn collect_one(lent: AtDesk, i: usize, text: &mut [u8]) -> AtDesk
-    requires { ⌜ i < 3 ⌝ }
-{
-    let heater = lent.heater;
-    if !heater.runs {
-        return lent;
+// What the heater becomes when it is told of a place that it asked for.
+pub(crate) fn told(heater: Heater, place: Place, known: Known, text: &mut [u8]) -> Heater {
+    if heater.waits_for == 0 {
+        return heater;
     }
-    let desk = lent.desk;
-    let ticket = heater.tickets[i];
-    let collected = model::collect(desk, CALLER, ticket);
-    let desk = collected.desk;
-    let known = collected.known;
     match known {
-        Known::State(_) => AtDesk {
-            desk,
-            heater: say(heater, place(i), known, given(i), text),
-        },
-        Known::Refused(number) => AtDesk {
-            desk,
-            heater: stop(heater, place(i), number, text),
-        },
+        Known::Refused(number) => stop(heater, place, number, text),
+        Known::State(_) => {
+            let mut after = say(heater, place, known, given(place), text);
+            after.waits_for = heater.waits_for - 1;
+            after
+        }
     }
-}
-
-// Posts all three.
-pub(crate) fn post(lent: AtDesk, text: &mut [u8]) -> AtDesk {
-    let lent = post_one(lent, 0, text);
-    let lent = post_one(lent, 1, text);
-    post_one(lent, 2, text)
-}
-
-// Collects all three in the order of their posts.
-pub(crate) fn collect(lent: AtDesk, text: &mut [u8]) -> AtDesk {
-    let lent = collect_one(lent, 0, text);
-    let lent = collect_one(lent, 1, text);
-    collect_one(lent, 2, text)
 }

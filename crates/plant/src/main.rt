@@ -1,27 +1,84 @@
-// The demonstration. Two models that know nothing of each other, `turbine` and `heater`, post
-// to one desk, and the program prints what each collected. Then it runs the turbine's calls again, with
-// the heater gone and the turns dealt otherwise, and says whether the turbine's lines, and every bit of
-// its states, are the same.
+// The demonstration. Two models that know nothing of each other, `turbine` and `heater`, sit at one desk,
+// and the program prints what each was told. Then it runs the turbine again, with the heater gone and the
+// turns dealt otherwise, and says whether the turbine's lines, and every bit of its states, are the same.
+// Only this file has the desk in hand: a model is asked for its query and told its state (`seats`).
 mod heater;
 mod model;
+mod seats;
 mod turbine;
 
-use crate::heater::Heater;
-use crate::turbine::Turbine;
+ghost use Prim.Native.Nat.{_<_};
+use crate::seats::Call;
+use crate::seats::Seats;
+use crate::seats::Step;
+use desk::Answer;
 use desk::Desk;
+use desk::Outcome;
 use libc::STDOUT_FILENO;
 
-// How many turns the host deals before a post of the turbine's, and between it and its collect.
+// How many rounds settle the turbine, one for each of its queries. The heater is settled in the first.
+const ROUNDS: u64 = 6;
+
+// How many turns the host deals in a round before the posts, and between them and the collects.
 struct Pace {
     before: u64,
     after: u64,
 }
 
-// Both models and the desk that they share.
-struct Both {
+// The desk and who sits at it.
+struct Plant {
     desk: Desk,
-    turbine: Turbine,
-    heater: Heater,
+    seats: Seats,
+}
+
+// Makes a call on the desk. `Idle` stands for the answer where there is none to make.
+fn made(desk: Desk, call: Call) -> Outcome {
+    match call {
+        Call::Post { caller, kind, p, y } => desk::post(desk, caller, kind, p, y),
+        Call::Collect { caller, ticket } => desk::collect(desk, caller, ticket),
+        Call::Nothing => Outcome {
+            answer: Answer::Idle,
+            desk,
+        },
+    }
+}
+
+// n turns of the desk, to whomever they fall.
+fn turns(plant: Plant, n: u64) -> Plant {
+    let mut d = plant.desk;
+    let mut k = 0u64;
+    while k < n {
+        let o = desk::turn(d);
+        let e = o.desk;
+        d = e;
+        k += 1;
+    }
+    let seats = plant.seats;
+    Plant { desk: d, seats }
+}
+
+// One call for each seat in turn.
+fn calls(plant: Plant, step: Step, text: &mut [u8], bits: &mut [u8], lines: &mut [u8]) -> Plant {
+    let mut d = plant.desk;
+    let mut seats = plant.seats;
+    let mut i = 0usize;
+    while i < 4 {
+        let o = made(d, seats::call_for(seats, i, step));
+        let e = o.desk;
+        let answer = o.answer;
+        d = e;
+        seats = seats::answered(seats, i, answer, text, bits, lines);
+        i += 1;
+    }
+    Plant { desk: d, seats }
+}
+
+// A round: whoever asks posts, and once the turns are dealt collects.
+fn round(plant: Plant, pace: Pace, text: &mut [u8], bits: &mut [u8], lines: &mut [u8]) -> Plant {
+    let early = turns(plant, pace.before);
+    let posted = calls(early, Step::Post, text, bits, lines);
+    let later = turns(posted, pace.after);
+    calls(later, Step::Collect, text, bits, lines)
 }
 
 // Prints what stands in a room from one place up to another.
@@ -33,146 +90,30 @@ fn show(room: &[u8], from: usize, to: usize) {
     }
 }
 
-// The turbine and its desk, so many turns later.
-fn turned(lent: turbine::AtDesk, n: u64) -> turbine::AtDesk {
-    let desk = lent.desk;
-    let mut later = lent;
-    later.desk = model::turns(desk, n);
-    later
+// Prints what the models wrote since, the turbine's lines and then the heater's.
+fn show_since(then: Seats, now: Seats, text: &[u8], lines: &[u8]) {
+    let turbine_then = then.turbine;
+    let turbine = now.turbine;
+    show(text, turbine_then.next_line, turbine.next_line);
+    let heater_then = then.heater;
+    let heater = now.heater;
+    show(lines, heater_then.next_line, heater.next_line);
 }
 
-// The first half of a stage: its ideal expansion.
-fn first_half(
-    lent: turbine::AtDesk,
-    stage: u64,
-    pace: Pace,
-    text: &mut [u8],
-    bits: &mut [u8],
-) -> turbine::AtDesk {
-    let lent = turned(lent, pace.before);
-    let lent = turbine::post_ideal(lent, stage, text);
-    let lent = turned(lent, pace.after);
-    turbine::collect_ideal(lent, stage, text, bits)
-}
-
-// The second half of a stage: its real expansion.
-fn second_half(
-    lent: turbine::AtDesk,
-    stage: u64,
-    pace: Pace,
-    text: &mut [u8],
-    bits: &mut [u8],
-) -> turbine::AtDesk {
-    let lent = turned(lent, pace.before);
-    let lent = turbine::post_real(lent, stage, text);
-    let lent = turned(lent, pace.after);
-    turbine::collect_real(lent, stage, text, bits)
-}
-
-// A stage: its ideal expansion and then its real one.
-fn stage(
-    lent: turbine::AtDesk,
-    number: u64,
-    pace: Pace,
-    text: &mut [u8],
-    bits: &mut [u8],
-) -> turbine::AtDesk {
-    let lent = first_half(lent, number, pace, text, bits);
-    second_half(lent, number, pace, text, bits)
-}
-
-// The turbine posts its first query, and then the heater its three.
-fn post_both(both: Both, text: &mut [u8], lines: &mut [u8]) -> Both {
-    let desk = both.desk;
-    let turbine = both.turbine;
-    let lent = turbine::post_ideal(turbine::AtDesk { desk, turbine }, 1, text);
-    let desk = lent.desk;
-    let turbine = lent.turbine;
-    let heater = both.heater;
-    let after = heater::post(heater::AtDesk { desk, heater }, lines);
-    let desk = after.desk;
-    let heater = after.heater;
-    Both {
-        desk,
-        turbine,
-        heater,
-    }
-}
-
-// The turbine collects, and then the heater its three, which is all that it does.
-fn collect_both(both: Both, text: &mut [u8], bits: &mut [u8], lines: &mut [u8]) -> Both {
-    let desk = both.desk;
-    let turbine = both.turbine;
-    let lent = turbine::collect_ideal(turbine::AtDesk { desk, turbine }, 1, text, bits);
-    let desk = lent.desk;
-    let turbine = lent.turbine;
-    let heater = both.heater;
-    let after = heater::collect(heater::AtDesk { desk, heater }, lines);
-    let desk = after.desk;
-    let heater = after.heater;
-    Both {
-        desk,
-        turbine,
-        heater,
-    }
-}
-
-// Both models at their first states, which they ask for directly, and a new desk.
-fn begin_both(text: &mut [u8], bits: &mut [u8], lines: &mut [u8]) -> Both {
-    let turbine = turbine::inlet(text, bits);
-    let heater = heater::water_in(lines);
-    show(text, 0, turbine.next_line);
-    show(lines, 0, heater.next_line);
-    Both {
+// All rounds at a new desk, each printed once it is over.
+fn run(start: Seats, pace: Pace, text: &mut [u8], bits: &mut [u8], lines: &mut [u8]) {
+    let mut plant = Plant {
         desk: desk::new_desk(),
-        turbine,
-        heater,
+        seats: start,
+    };
+    let mut k = 0u64;
+    while k < ROUNDS {
+        let then = plant.seats;
+        plant = round(plant, pace, text, bits, lines);
+        let now = plant.seats;
+        show_since(then, now, text, lines);
+        k += 1;
     }
-}
-
-// Prints what the models wrote, the turbine from one place on and the heater from another.
-fn show_both(both: Both, from: usize, text: &[u8], heater_from: usize, lines: &[u8]) {
-    let turbine = both.turbine;
-    let heater = both.heater;
-    show(text, from, turbine.next_line);
-    show(lines, heater_from, heater.next_line);
-}
-
-// The first half of the turbine's first stage, with the heater's queries on the desk.
-fn first_half_beside(
-    both: Both,
-    pace: Pace,
-    text: &mut [u8],
-    bits: &mut [u8],
-    lines: &mut [u8],
-) -> Both {
-    let turbine = both.turbine;
-    let heater = both.heater;
-    let mut posted = post_both(both, text, lines);
-    let desk = posted.desk;
-    posted.desk = model::turns(desk, pace.after);
-    let collected = collect_both(posted, text, bits, lines);
-    show_both(collected, turbine.next_line, text, heater.next_line, lines);
-    collected
-}
-
-// All that the heater does, and the turbine beside it: up to the first half of its first stage.
-fn begin_beside(pace: Pace, text: &mut [u8], bits: &mut [u8]) -> turbine::AtDesk {
-    let mut lines = [0u8; 1024];
-    let both = begin_both(text, bits, &mut lines);
-    let both = first_half_beside(both, pace, text, bits, &mut lines);
-    let desk = both.desk;
-    let turbine = both.turbine;
-    turbine::AtDesk { desk, turbine }
-}
-
-// The second and the third stage, and the turbine's sum; then prints what it wrote from a place on.
-fn finish(lent: turbine::AtDesk, from: usize, pace: Pace, text: &mut [u8], bits: &mut [u8]) {
-    let lent = stage(lent, 2, pace, text, bits);
-    let lent = stage(lent, 3, pace, text, bits);
-    let turbine = lent.turbine;
-    let turbine = turbine::sum_up(turbine, text);
-    show(text, from, turbine.next_line);
 }
 
 // Run 1: the turbine and the heater at one desk. After 1280 turns a query is settled, whoever else posts.
@@ -185,10 +126,12 @@ fn beside_the_heater(text: &mut [u8], bits: &mut [u8]) {
         before: 0,
         after: 1280,
     };
-    let lent = begin_beside(pace, text, bits);
-    let turbine = lent.turbine;
-    let lent = second_half(lent, 1, pace, text, bits);
-    finish(lent, turbine.next_line, pace, text, bits);
+    let mut lines = [0u8; 1024];
+    let turbine = turbine::inlet(text, bits);
+    let heater = heater::water_in(&mut lines);
+    show(text, 0, turbine.next_line);
+    show(&lines, 0, heater.next_line);
+    run(seats::seated(turbine, heater), pace, text, bits, &mut lines);
 }
 
 // Run 2: the turbine alone, its turns dealt otherwise.
@@ -201,13 +144,16 @@ fn alone(text: &mut [u8], bits: &mut [u8]) {
         before: 7,
         after: 1300,
     };
+    let mut lines = [0u8; 0];
     let turbine = turbine::inlet(text, bits);
-    let lent = turbine::AtDesk {
-        desk: desk::new_desk(),
-        turbine,
-    };
-    let lent = stage(lent, 1, pace, text, bits);
-    finish(lent, 0, pace, text, bits);
+    show(text, 0, turbine.next_line);
+    run(
+        seats::seated(turbine, heater::absent()),
+        pace,
+        text,
+        bits,
+        &mut lines,
+    );
 }
 
 // A room holds zeros behind what was written into it, so the rooms of the two runs are compared whole.

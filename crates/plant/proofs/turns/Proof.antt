@@ -1,14 +1,14 @@
--- `plant::model::asking::turns` ends: each pass of the loop brings k nearer to n. Assumes nothing.
+-- `plant::turns` ends: each pass of the loop brings k nearer to n. Assumes nothing.
 use borrow.Author.Needs.{needs}
 use Prim.Native.Nat.{_-_, _≤_}
-use Rattle.plant.proofs.model.asking.turns.Statement.{statement}
-use Rattle.plant.proofs.model.asking.turns.Tie as tie
+use Rattle.plant.proofs.turns.Statement.{statement}
+use Rattle.plant.proofs.turns.Tie as tie
 
 abbrev Inv-loop : tie.InvT-loop
-Inv-loop n d₀ k₀ d k = k ≤ n
+Inv-loop plant n d₀ k₀ d k = k ≤ n
 
 abbrev μ-loop : tie.MeasureT-loop
-μ-loop n d₀ k₀ d k = n - k
+μ-loop plant n d₀ k₀ d k = n - k
 
 loop-holds : tie.Need-loop-holds Inv-loop μ-loop
 loop-holds c = search needs
