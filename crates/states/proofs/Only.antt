@@ -18,6 +18,11 @@ use Rattle.states.proofs.mixing.wet_at.Kinds as wet-at-kinds
 use Rattle.states.proofs.mixing.wet_at.Reads as wet-at
 use Rattle.states.proofs.worked.property.Kinds as property-kinds
 use Rattle.states.proofs.worked.property.Reads as property
+use Rattle.states.proofs.worked.worked_apart.Kinds as worked-apart-kinds
+use Rattle.states.proofs.worked.worked_apart.Reads as worked-apart
+
+pub worked-apart-only : Only 0 worked-apart-kinds.ps worked-apart-kinds.r worked-apart.Post
+worked-apart-only κs a x y s t p q = p ∙ sym q
 
 pub property-only : Only 0 property-kinds.ps property-kinds.r property.Post
 property-only κs a x y s t p q = p ∙ sym q

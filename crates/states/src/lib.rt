@@ -16,6 +16,7 @@ pub use mixing::wet_at;
 use properties::State;
 pub use worked::Worked;
 pub use worked::property;
+pub use worked::worked_apart;
 
 // Which property a query gives beside p.
 pub enum Given {

@@ -58,6 +58,32 @@ pub(crate) fn worked_at(region: u64, p: f64, t: f64) -> Worked
     worked_2(p, t)
 }
 
+// The same for a derivative, which takes a part of it: the compiler places it in line where it is called
+// once, and leaves out what is not taken.
+pub fn worked_apart(region: u64, p: f64, t: f64) -> Worked
+    ensures { λ r. ⌜ r ≡ workedAt region p t ⌝ }
+{
+    if region == 1 {
+        let liquid = Region1::gamma(p, t);
+        return Worked {
+            unrooted: Region1::unrooted_of(p, t, liquid),
+            response: Region1::response_of(p, t, liquid),
+        };
+    }
+    if region == 5 {
+        let vapour = Region5::gamma(p, t);
+        return Worked {
+            unrooted: Region5::unrooted_of(p, t, vapour),
+            response: Region5::response_of(p, t, vapour),
+        };
+    }
+    let vapour = Region2::gamma(p, t);
+    Worked {
+        unrooted: Region2::unrooted_of(p, t, vapour),
+        response: Region2::response_of(p, t, vapour),
+    }
+}
+
 // Of an h and an s, the one that is given.
 pub(crate) fn given_of(given: Given, h: f64, s: f64) -> f64
     ensures { λ r. ⌜ r ≡ givenOf given h s ⌝ }

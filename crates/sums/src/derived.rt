@@ -1,14 +1,17 @@
 // Derivatives at the state that a query gives (specs/Quotients.antt).
+use crate::outcomes::Found;
 use crate::outcomes::Outcome;
+use crate::outcomes::of_hs;
 use crate::outcomes::of_kind;
 use slopes::Derivative;
+use states::Full;
 ghost use mathlib.Core.Path.{_≡_};
 ghost use mathlib.Core.Bool.{true};
 ghost use Rattle.slopes.specs.Slopes.{allKnown};
-ghost use Rattle.sums.specs.Outcomes.{quotientCarried};
+ghost use Rattle.sums.specs.Outcomes.{quotientCarried, quotientFound};
 ghost use Rattle.sums.specs.Quotients.{quotientOf};
 
-// The quotient at what a query gave, which a state of one phase alone has.
+// The quotient at what an (h,s) query gave, which a state of one phase alone has.
 fn of_outcome(o: Outcome, z: u64, x: u64, y: u64) -> Derivative
     requires { ⌜ allKnown z x y ≡ true ⌝ }
     ensures { λ r. ⌜ r ≡ quotientCarried o z x y ⌝ }
@@ -20,13 +23,38 @@ fn of_outcome(o: Outcome, z: u64, x: u64, y: u64) -> Derivative
     }
 }
 
+// The quotient where a state was found.
+fn of_found(f: Found, z: u64, x: u64, y: u64) -> Derivative
+    requires { ⌜ allKnown z x y ≡ true ⌝ }
+    ensures { λ r. ⌜ r ≡ quotientFound f z x y ⌝ }
+{
+    match f {
+        Found::Single(a) => {
+            let worked = states::worked_apart(a.region, a.p, a.t);
+            let full = Full {
+                region: a.region,
+                p: a.p,
+                t: a.t,
+                worked,
+                verified: true,
+            };
+            slopes::quotient(full, z, x, y)
+        }
+        Found::Wet(_) => Derivative::Refused(8),
+        Found::Refused(n) => Derivative::Refused(n),
+    }
+}
+
 // The derivative of property z by property x at constant y, numbered 1 to 8, at the state that a
 // query gives; kind, c and d are those of `query`.
 pub fn quotient(kind: u64, c: f64, d: f64, z: u64, x: u64, y: u64) -> Derivative
     ensures { λ r. ⌜ r ≡ quotientOf kind c d z x y ⌝ }
 {
     if slopes::all_known(z, x, y) {
-        return of_outcome(of_kind(kind, c, d), z, x, y);
+        if kind == 4 {
+            return of_outcome(of_hs(c, d), z, x, y);
+        }
+        return of_found(of_kind(kind, c, d), z, x, y);
     }
     Derivative::Refused(9)
 }

@@ -1,5 +1,6 @@
-// Queries from the inside: an answer as it is carried, with what a derivative of it needs
-// (specs/Queries.antt, specs/Outcomes.antt).
+// Queries from the inside: where the state lies that a query finds, so that a state or a derivative is
+// worked there and nothing of the other (specs/Queries.antt, specs/Outcomes.antt). An (h,s) query works
+// a state to judge it, and carries that.
 use crate::Answer;
 use crate::candidates::candidate;
 use places::Place;
@@ -10,12 +11,26 @@ use states::Full;
 use states::Given;
 use states::Wet;
 use states::full_at;
-use states::full_marked;
 use states::handed_out;
+use states::marked;
 use states::wet_at;
 ghost use mathlib.Core.Path.{_≡_};
+ghost use mathlib.Core.Logic.{_≢_};
 ghost use Rattle.sums.specs.Queries.{temperatureOf, answerPT, answerPY, answerHS, answerOf};
-ghost use Rattle.sums.specs.Outcomes.{outcomeOf, shownOf};
+ghost use Rattle.sums.specs.Outcomes.{outcomeOf, shownOf, foundOf, verifiedIn, markedIn};
+
+// Where a state of one phase lies.
+pub struct Spot {
+    pub region: u64,
+    pub p: f64,
+    pub t: f64,
+}
+
+pub enum Found {
+    Single(Spot),
+    Wet(Wet),
+    Refused(u64),
+}
 
 pub enum Outcome {
     Single(Full),
@@ -23,7 +38,7 @@ pub enum Outcome {
     Refused(u64),
 }
 
-// The answer alone.
+// The answer of an outcome.
 pub(crate) fn shown(o: Outcome) -> Answer
     ensures { λ r. ⌜ r ≡ shownOf o ⌝ }
 {
@@ -34,16 +49,35 @@ pub(crate) fn shown(o: Outcome) -> Answer
     }
 }
 
-// From p in MPa and T in K. Here and below a state is returned from where it is made, which spares
-// its copy to where the arms meet.
-pub(crate) fn of_pt(p: f64, t: f64) -> Outcome
-    ensures { λ r. ⌜ r ≡ outcomeOf (answerPT p t) ⌝ }
+// The answer of a (p,T) query: nothing was asked back.
+pub(crate) fn verified_in(f: Found) -> Answer
+    ensures { λ r. ⌜ r ≡ verifiedIn f ⌝ }
+{
+    match f {
+        Found::Single(a) => Answer::Single(handed_out(full_at(a.region, a.p, a.t))),
+        Found::Wet(a) => Answer::Wet(a),
+        Found::Refused(n) => Answer::Refused(n),
+    }
+}
+
+// The answer of a query that asked for an h or s.
+pub(crate) fn marked_in(given: Given, y: f64, f: Found) -> Answer
+    ensures { λ r. ⌜ r ≡ markedIn given y f ⌝ }
+{
+    match f {
+        Found::Single(a) => Answer::Single(marked(given, a.region, a.p, y, a.t)),
+        Found::Wet(a) => Answer::Wet(a),
+        Found::Refused(n) => Answer::Refused(n),
+    }
+}
+
+// From p in MPa and T in K.
+pub(crate) fn of_pt(p: f64, t: f64) -> Found
+    ensures { λ r. ⌜ r ≡ foundOf (answerPT p t) ⌝ }
 {
     match place_pt(p, t) {
-        Place::Region(n) => {
-            return Outcome::Single(full_at(n, p, t));
-        }
-        Place::Refused(n) => Outcome::Refused(n),
+        Place::Region(region) => Found::Single(Spot { region, p, t }),
+        Place::Refused(n) => Found::Refused(n),
     }
 }
 
@@ -64,18 +98,18 @@ pub(crate) fn temperature(given: Given, region: u64, p: f64, y: f64) -> f64
 }
 
 // From p in MPa and an h in kJ/kg or s in kJ/(kg K).
-pub(crate) fn of_py(given: Given, p: f64, y: f64) -> Outcome
-    ensures { λ r. ⌜ r ≡ outcomeOf (answerPY given p y) ⌝ }
+pub(crate) fn of_py(given: Given, p: f64, y: f64) -> Found
+    ensures { λ r. ⌜ r ≡ foundOf (answerPY given p y) ⌝ }
 {
     match place_py(given, p, y) {
-        Place::Region(n) => {
-            if n == 4 {
-                return Outcome::Wet(wet_at(given, p, y));
+        Place::Region(region) => {
+            if region == 4 {
+                return Found::Wet(wet_at(given, p, y));
             }
-            let t = temperature(given, n, p, y);
-            return Outcome::Single(full_marked(given, n, p, y, t));
+            let t = temperature(given, region, p, y);
+            Found::Single(Spot { region, p, t })
         }
-        Place::Refused(n) => Outcome::Refused(n),
+        Place::Refused(n) => Found::Refused(n),
     }
 }
 
@@ -93,15 +127,15 @@ pub(crate) fn of_hs(h: f64, s: f64) -> Outcome
     }
 }
 
-// By the number of the kind.
-pub(crate) fn of_kind(kind: u64, x: f64, y: f64) -> Outcome
-    ensures { λ r. ⌜ r ≡ outcomeOf (answerOf kind x y) ⌝ }
+// By the number of the kind, which is not that of (h,s).
+pub(crate) fn of_kind(kind: u64, x: f64, y: f64) -> Found
+    requires { ⌜ kind ≢ 4 ⌝ }
+    ensures { λ r. ⌜ r ≡ foundOf (answerOf kind x y) ⌝ }
 {
     match kind {
         1 => of_pt(x, y),
         2 => of_py(Given::Enthalpy, x, y),
         3 => of_py(Given::Entropy, x, y),
-        4 => of_hs(x, y),
-        _ => Outcome::Refused(9),
+        _ => Found::Refused(9),
     }
 }
