@@ -53,46 +53,6 @@ fn heat() -> f64 {
     BLED_FLOW * (STEAM_H - DRAIN_H)
 }
 
-// What the heater gives off at a place: heat, to the water out.
-fn given(place: Place) -> Output {
-    match place {
-        Place::WaterOut => Output::Heat(heat() / model::KW_IN_MW),
-        _ => Output::Nothing,
-    }
-}
-
-// Writes a line of the heater's.
-fn say(heater: Heater, place: Place, known: Known, given: Output, text: &mut [u8]) -> Heater {
-    let n = places::title(place, text, heater.next_line);
-    let mut after = heater;
-    after.next_line = model::told(known, given, text, n);
-    after
-}
-
-// The heater stops at a refusal, and says so.
-fn stop(heater: Heater, place: Place, number: u64, text: &mut [u8]) -> Heater {
-    let mut stopped = say(heater, place, Known::Refused(number), Output::Nothing, text);
-    stopped.waits_for = 0;
-    stopped
-}
-
-// The heater with its water in, whose state is asked for directly.
-pub(crate) fn water_in(text: &mut [u8]) -> Heater {
-    let known = model::ask(WATER_P, WATER_IN_T);
-    match known {
-        Known::Refused(number) => stop(absent(), Place::WaterIn, number, text),
-        Known::State(single) => {
-            let properties = single.state;
-            let heater = Heater {
-                waits_for: 3,
-                h_in: properties.h,
-                next_line: 0,
-            };
-            say(heater, Place::WaterIn, known, Output::Nothing, text)
-        }
-    }
-}
-
 // What the heater asks of a place as long as it waits for states.
 pub(crate) fn asks(heater: Heater, place: Place) -> Asks {
     if heater.waits_for == 0 {
@@ -115,17 +75,51 @@ pub(crate) fn asks(heater: Heater, place: Place) -> Asks {
     }
 }
 
-// What the heater becomes when it is told of a place that it asked for.
-pub(crate) fn told(heater: Heater, place: Place, known: Known, text: &mut [u8]) -> Heater {
-    if heater.waits_for == 0 {
-        return heater;
+// What the heater gives off at a place: heat, to the water out.
+fn given(place: Place) -> Output {
+    match place {
+        Place::WaterOut => Output::Heat(heat() / model::KW_IN_MW),
+        _ => Output::Nothing,
     }
+}
+
+// Where the heater stands once this is known of a place: a refusal stops it.
+fn advanced(heater: Heater, place: Place, known: Known) -> Heater {
+    let mut after = heater;
     match known {
-        Known::Refused(number) => stop(heater, place, number, text),
-        Known::State(_) => {
-            let mut after = say(heater, place, known, given(place), text);
-            after.waits_for = heater.waits_for - 1;
-            after
+        Known::Refused(_) => after.waits_for = 0,
+        Known::State(single) => {
+            let properties = single.state;
+            match place {
+                Place::WaterIn => after.h_in = properties.h,
+                _ => after.waits_for = one_less(heater.waits_for),
+            }
         }
     }
+    after
+}
+
+// One state less to wait for.
+fn one_less(waits_for: u64) -> u64 {
+    if waits_for == 0 { 0 } else { waits_for - 1 }
+}
+
+// What the heater becomes when it is told of a place that it asked for; it writes its line.
+pub(crate) fn told(heater: Heater, place: Place, known: Known, room: &mut [u8]) -> Heater {
+    let n = places::title(place, room, heater.next_line);
+    let mut after = advanced(heater, place, known);
+    after.next_line = model::told(known, given(place), room, n);
+    after
+}
+
+// The heater with its water in, whose state is asked for directly.
+pub(crate) fn water_in(room: &mut [u8]) -> Heater {
+    let mut heater = absent();
+    heater.waits_for = 3;
+    told(
+        heater,
+        Place::WaterIn,
+        model::ask(WATER_P, WATER_IN_T),
+        room,
+    )
 }

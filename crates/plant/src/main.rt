@@ -7,7 +7,6 @@ mod model;
 mod seats;
 mod turbine;
 
-ghost use Prim.Native.Nat.{_<_};
 use crate::seats::Call;
 use crate::seats::Seats;
 use crate::seats::Step;
@@ -58,7 +57,7 @@ fn turns(plant: Plant, n: u64) -> Plant {
 }
 
 // One call for each seat in turn.
-fn calls(plant: Plant, step: Step, text: &mut [u8], bits: &mut [u8], lines: &mut [u8]) -> Plant {
+fn calls(plant: Plant, step: Step, room: &mut [u8], lines: &mut [u8]) -> Plant {
     let mut d = plant.desk;
     let mut seats = plant.seats;
     let mut i = 0usize;
@@ -67,18 +66,19 @@ fn calls(plant: Plant, step: Step, text: &mut [u8], bits: &mut [u8], lines: &mut
         let e = o.desk;
         let answer = o.answer;
         d = e;
-        seats = seats::answered(seats, i, answer, text, bits, lines);
+        let kept = seats::ticketed(seats, i, answer);
+        seats = seats::answered(kept, i, answer, room, lines);
         i += 1;
     }
     Plant { desk: d, seats }
 }
 
 // A round: whoever asks posts, and once the turns are dealt collects.
-fn round(plant: Plant, pace: Pace, text: &mut [u8], bits: &mut [u8], lines: &mut [u8]) -> Plant {
+fn round(plant: Plant, pace: Pace, room: &mut [u8], lines: &mut [u8]) -> Plant {
     let early = turns(plant, pace.before);
-    let posted = calls(early, Step::Post, text, bits, lines);
+    let posted = calls(early, Step::Post, room, lines);
     let later = turns(posted, pace.after);
-    calls(later, Step::Collect, text, bits, lines)
+    calls(later, Step::Collect, room, lines)
 }
 
 // Prints what stands in a room from one place up to another.
@@ -91,17 +91,26 @@ fn show(room: &[u8], from: usize, to: usize) {
 }
 
 // Prints what the models wrote since, the turbine's lines and then the heater's.
-fn show_since(then: Seats, now: Seats, text: &[u8], lines: &[u8]) {
+fn show_since(then: Seats, now: Seats, room: &[u8], lines: &[u8]) {
     let turbine_then = then.turbine;
     let turbine = now.turbine;
-    show(text, turbine_then.next_line, turbine.next_line);
+    show(room, turbine_then.next_line, turbine.next_line);
     let heater_then = then.heater;
     let heater = now.heater;
     show(lines, heater_then.next_line, heater.next_line);
 }
 
+// Prints what the models wrote at their first states.
+fn show_first(seats: Seats, room: &[u8], lines: &[u8]) {
+    let turbine = seats.turbine;
+    show(room, 0, turbine.next_line);
+    let heater = seats.heater;
+    show(lines, 0, heater.next_line);
+}
+
 // All rounds at a new desk, each printed once it is over.
-fn run(start: Seats, pace: Pace, text: &mut [u8], bits: &mut [u8], lines: &mut [u8]) {
+fn run(start: Seats, pace: Pace, room: &mut [u8], lines: &mut [u8]) {
+    show_first(start, room, lines);
     let mut plant = Plant {
         desk: desk::new_desk(),
         seats: start,
@@ -109,69 +118,57 @@ fn run(start: Seats, pace: Pace, text: &mut [u8], bits: &mut [u8], lines: &mut [
     let mut k = 0u64;
     while k < ROUNDS {
         let then = plant.seats;
-        plant = round(plant, pace, text, bits, lines);
+        plant = round(plant, pace, room, lines);
         let now = plant.seats;
-        show_since(then, now, text, lines);
+        show_since(then, now, room, lines);
         k += 1;
     }
 }
 
 // Run 1: the turbine and the heater at one desk. After 1280 turns a query is settled, whoever else posts.
-fn beside_the_heater(text: &mut [u8], bits: &mut [u8]) {
-    io::write_all(
-        STDOUT_FILENO,
-        b"turbine and heater at one desk, 1280 turns between a post and its collect\n",
-    );
+fn beside_the_heater(room: &mut [u8], lines: &mut [u8]) {
     let pace = Pace {
         before: 0,
         after: 1280,
     };
-    let mut lines = [0u8; 1024];
-    let turbine = turbine::inlet(text, bits);
-    let heater = heater::water_in(&mut lines);
-    show(text, 0, turbine.next_line);
-    show(&lines, 0, heater.next_line);
-    run(seats::seated(turbine, heater), pace, text, bits, &mut lines);
+    let turbine = turbine::inlet(room);
+    let heater = heater::water_in(lines);
+    run(seats::seated(turbine, heater), pace, room, lines);
 }
 
 // Run 2: the turbine alone, its turns dealt otherwise.
-fn alone(text: &mut [u8], bits: &mut [u8]) {
-    io::write_all(
-        STDOUT_FILENO,
-        b"turbine alone, 7 turns before each post and 1300 between it and its collect\n",
-    );
+fn alone(room: &mut [u8], lines: &mut [u8]) {
     let pace = Pace {
         before: 7,
         after: 1300,
     };
-    let mut lines = [0u8; 0];
-    let turbine = turbine::inlet(text, bits);
-    show(text, 0, turbine.next_line);
-    run(
-        seats::seated(turbine, heater::absent()),
-        pace,
-        text,
-        bits,
-        &mut lines,
-    );
+    let turbine = turbine::inlet(room);
+    run(seats::seated(turbine, heater::absent()), pace, room, lines);
 }
 
-// A room holds zeros behind what was written into it, so the rooms of the two runs are compared whole.
-fn main() {
-    let mut text = [0u8; 2048];
-    let mut bits = [0u8; 1024];
-    beside_the_heater(&mut text, &mut bits);
-    let mut text_alone = [0u8; 2048];
-    let mut bits_alone = [0u8; 1024];
-    alone(&mut text_alone, &mut bits_alone);
-    let same_text = check::same(&text, &text_alone);
-    let same_bits = check::same(&bits, &bits_alone);
-    if same_text && same_bits {
-        io::write_all(
-            STDOUT_FILENO,
+// Prints a line.
+fn say(line: &[u8]) {
+    io::write_all(STDOUT_FILENO, line);
+}
+
+// What the two runs come to: a room has zeros where nothing was written, so the rooms are compared whole.
+fn compare(room: &[u8], room_alone: &[u8]) {
+    if check::same(room, room_alone) {
+        say(
             b"the turbine's lines are the same in both runs, and so is every bit of its states: nothing of the heater's got into them\n",
         );
     } else {
-        io::write_all(STDOUT_FILENO, b"the turbine's lines differ\n");
+        say(b"the turbine's lines differ\n");
     }
+}
+
+fn main() {
+    let mut room = [0u8; 3072];
+    let mut room_alone = [0u8; 3072];
+    let mut lines = [0u8; 1024];
+    say(b"turbine and heater at one desk, 1280 turns between a post and its collect\n");
+    beside_the_heater(&mut room, &mut lines);
+    say(b"turbine alone, 7 turns before each post and 1300 between it and its collect\n");
+    alone(&mut room_alone, &mut lines);
+    compare(&room, &room_alone);
 }

@@ -49,6 +49,12 @@ pub enum Call {
     Nothing,
 }
 
+// What an answer of the desk's tells a model.
+enum Heard {
+    Known(Known),
+    Nothing,
+}
+
 // The models on their seats, with no ticket yet.
 pub(crate) fn seated(turbine: Turbine, heater: Heater) -> Seats {
     let tickets = [0u64; 4];
@@ -128,48 +134,53 @@ pub(crate) fn call_for(seats: Seats, seat: usize, step: Step) -> Call
     }
 }
 
-// Tells the model on a seat what is known of its query.
-fn told(
-    seats: Seats,
-    seat: usize,
-    known: Known,
-    text: &mut [u8],
-    bits: &mut [u8],
-    lines: &mut [u8],
-) -> Seats {
+// What an answer tells: the state or the refusal's number, or nothing that concerns a model.
+fn heard_of(answer: Answer) -> Heard {
+    match answer {
+        Answer::State(settled) => {
+            let single = settled.single;
+            Heard::Known(Known::State(single))
+        }
+        Answer::Refused(number) => Heard::Known(Known::Refused(number)),
+        _ => Heard::Nothing,
+    }
+}
+
+// Keeps a seat's ticket, if that is the answer, for its collect.
+pub(crate) fn ticketed(seats: Seats, seat: usize, answer: Answer) -> Seats
+    requires { ⌜ seat < 4 ⌝ }
+{
+    let mut after = seats;
+    match answer {
+        Answer::Ticket(number) => after.tickets[seat] = number,
+        _ => {}
+    }
+    after
+}
+
+// Tells the model on a seat what is known of its query. Each model writes into a room of its own.
+fn told(seats: Seats, seat: usize, known: Known, room: &mut [u8], lines: &mut [u8]) -> Seats {
     let turbine = seats.turbine;
     let heater = seats.heater;
     let mut after = seats;
     match seat {
-        0 => after.turbine = turbine::told(turbine, known, text, bits),
+        0 => after.turbine = turbine::told(turbine, known, room),
         _ => after.heater = heater::told(heater, place(seat), known, lines),
     }
     after
 }
 
-// A seat's call was answered so. A ticket is kept for its collect; a state and a refusal are told to the
-// model; where no call was made there is nothing to tell.
+// Tells the model on a seat what its call was answered.
 pub(crate) fn answered(
     seats: Seats,
     seat: usize,
     answer: Answer,
-    text: &mut [u8],
-    bits: &mut [u8],
+    room: &mut [u8],
     lines: &mut [u8],
-) -> Seats
-    requires { ⌜ seat < 4 ⌝ }
-{
-    match answer {
-        Answer::Ticket(number) => {
-            let mut after = seats;
-            after.tickets[seat] = number;
-            after
-        }
-        Answer::State(settled) => {
-            let single = settled.single;
-            told(seats, seat, Known::State(single), text, bits, lines)
-        }
-        Answer::Refused(number) => told(seats, seat, Known::Refused(number), text, bits, lines),
-        _ => seats,
+) -> Seats {
+    let heard = heard_of(answer);
+    match heard {
+        Heard::Known(known) => told(seats, seat, known, room, lines),
+        Heard::Nothing => seats,
     }
 }

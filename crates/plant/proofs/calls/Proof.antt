@@ -8,11 +8,11 @@ use Rattle.plant.proofs.calls.Statement.{statement}
 use Rattle.plant.proofs.calls.Tie as tie
 
 abbrev Inv-loop : tie.InvT-loop
-Inv-loop step text₀ bits₀ lines₀ d₀ seats₀ i₀ text bits lines d seats i =
-    (i ≤ 4) × (length text ≡ length text₀) × (length bits ≡ length bits₀) × (length lines ≡ length lines₀)
+Inv-loop step room₀ lines₀ d₀ seats₀ i₀ room lines d seats i =
+    (i ≤ 4) × (length room ≡ length room₀) × (length lines ≡ length lines₀)
 
 abbrev μ-loop : tie.MeasureT-loop
-μ-loop step text₀ bits₀ lines₀ d₀ seats₀ i₀ text bits lines d seats i = 4 - i
+μ-loop step room₀ lines₀ d₀ seats₀ i₀ room lines d seats i = 4 - i
 
 loop-holds : tie.Need-loop-holds Inv-loop μ-loop
 loop-holds c = search needs
@@ -22,6 +22,9 @@ call-for-requires c κs = search needs
 
 made-requires : tie.Need-made-requires Inv-loop μ-loop
 made-requires c κs = search needs
+
+ticketed-requires : tie.Need-ticketed-requires Inv-loop μ-loop
+ticketed-requires c κs = search needs
 
 answered-requires : tie.Need-answered-requires Inv-loop μ-loop
 answered-requires c κs = search needs
@@ -41,9 +44,6 @@ same-length c = search needs
 same-length-2 : tie.Need-same-length-2 Inv-loop μ-loop
 same-length-2 c = search needs
 
-same-length-3 : tie.Need-same-length-3 Inv-loop μ-loop
-same-length-3 c = search needs
-
 returns : tie.Need-returns Inv-loop μ-loop
 returns c = search needs
 
@@ -56,11 +56,11 @@ calls-spec =
     loop-holds
     call-for-requires
     made-requires
+    ticketed-requires
     answered-requires
     add-i
     loop-less
     loop-again
     same-length
     same-length-2
-    same-length-3
     returns)

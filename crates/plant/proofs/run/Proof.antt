@@ -8,11 +8,14 @@ use Rattle.plant.proofs.run.Statement.{statement}
 use Rattle.plant.proofs.run.Tie as tie
 
 abbrev Inv-loop : tie.InvT-loop
-Inv-loop pace text₀ bits₀ lines₀ plant₀ k₀ text bits lines plant k =
-    (k ≤ 6) × (length text ≡ length text₀) × (length bits ≡ length bits₀) × (length lines ≡ length lines₀)
+Inv-loop pace room₀ lines₀ plant₀ k₀ room lines plant k =
+    (k ≤ 6) × (length room ≡ length room₀) × (length lines ≡ length lines₀)
 
 abbrev μ-loop : tie.MeasureT-loop
-μ-loop pace text₀ bits₀ lines₀ plant₀ k₀ text bits lines plant k = 6 - k
+μ-loop pace room₀ lines₀ plant₀ k₀ room lines plant k = 6 - k
+
+show-first-requires : tie.Need-show-first-requires Inv-loop μ-loop
+show-first-requires c κs = search needs
 
 new-desk-requires : tie.Need-new-desk-requires Inv-loop μ-loop
 new-desk-requires c κs = search needs
@@ -41,9 +44,6 @@ same-length c = search needs
 same-length-2 : tie.Need-same-length-2 Inv-loop μ-loop
 same-length-2 c = search needs
 
-same-length-3 : tie.Need-same-length-3 Inv-loop μ-loop
-same-length-3 c = search needs
-
 returns : tie.Need-returns Inv-loop μ-loop
 returns c = search needs
 
@@ -53,6 +53,7 @@ run-spec =
     (tie.spec
     Inv-loop
     μ-loop
+    show-first-requires
     new-desk-requires
     loop-holds
     round-requires
@@ -62,5 +63,4 @@ run-spec =
     loop-again
     same-length
     same-length-2
-    same-length-3
     returns)
