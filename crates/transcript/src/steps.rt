@@ -28,6 +28,13 @@ fn asked(d: Desk, call: Call) -> Outcome
     }
 }
 
+// The result of a record.
+fn stepped(desk: Desk, taken: usize, end: usize) -> Step
+    ensures { λ r. ⌜ r ≡ record { desk = desk; taken = taken; end = end } ⌝ }
+{
+    Step { desk, taken, end }
+}
+
 // Does what the record at the front of the bytes that are left asks for, on the desk d, and writes its
 // text, with its number, into the room. A bad record takes all that is left: it ends the run.
 pub fn play(rest: &[u8], number: u64, d: Desk, out: &mut [u8]) -> Step
@@ -40,46 +47,16 @@ pub fn play(rest: &[u8], number: u64, d: Desk, out: &mut [u8]) -> Step
             let answer = o.answer;
             let end = told(number, call, answer, out);
             let after = o.desk;
-            Step {
-                desk: after,
-                taken: 40,
-                end,
-            }
+            stepped(after, 40, end)
         }
         Deed::Turns(n) => {
             let t = turns(d, n);
             let end = turned(number, t.refusal, t.halved, t.idle, out);
             let after = t.desk;
-            Step {
-                desk: after,
-                taken: 40,
-                end,
-            }
+            stepped(after, 40, end)
         }
-        Deed::Given => {
-            let after = desk_in(rest);
-            let end = opened(number, b"desk\n", out);
-            Step {
-                desk: after,
-                taken: 2672,
-                end,
-            }
-        }
-        Deed::Shown => {
-            let end = shown(number, d, out);
-            Step {
-                desk: d,
-                taken: 40,
-                end,
-            }
-        }
-        Deed::Bad => {
-            let end = opened(number, b"bad record\n", out);
-            Step {
-                desk: d,
-                taken: rest.len(),
-                end,
-            }
-        }
+        Deed::Given => stepped(desk_in(rest), 2672, opened(number, b"desk\n", out)),
+        Deed::Shown => stepped(d, 40, shown(number, d, out)),
+        Deed::Bad => stepped(d, rest.len(), opened(number, b"bad record\n", out)),
     }
 }
