@@ -1,5 +1,5 @@
 -- `listing::listings::listed` meets its contract: the refusal's line, or header and lines one behind the other. Assumes nothing.
-use mathlib.Core.Path.{_≡_, sym, ap}
+use mathlib.Core.Path.{_≡_, sym, ap, _∙_}
 use Rattle.text.proofs.Pieces.{then, said}
 use Rattle.sheet.specs.declared.reader.Reading.the-variants.{Rows, Refused}
 use Rattle.listing.specs.Listings.{openedOf, listedOf}
@@ -7,12 +7,22 @@ use borrow.Author.Needs.{needs}
 use Rattle.listing.proofs.listings.listed.Statement.{statement}
 use Rattle.listing.proofs.listings.listed.Tie as tie
 
--- what was read, in each arm
-refusal : (c : tie.After-known-told) → openedOf (c .before .before .before .before .before .before .args .sheet .now) ≡ Refused (c .before .r .given .0 .0)
-refusal c = cc
+-- where the sheet was opened, from either arm, and what was called
+abbrev opening : tie.After-known-told → tie.After-opened
+opening c = c .before .before .before
 
-rows : (c : tie.After-known-told2) → openedOf (c .before .before .before .before .before .before .args .sheet .now) ≡ Rows (c .before .r2 .given .0 .0) (c .before .r2 .given .0 .1 .0)
-rows c = cc
+abbrev opening-2 : tie.After-known-told2 → tie.After-opened
+opening-2 c = c .before .before .before
+
+abbrev start : tie.After-opened → tie.Start
+start c = c .before .before .before
+
+-- what was read, in each arm
+refusal : (c : tie.After-known-told) → openedOf (start (opening c) .args .sheet .now) ≡ Refused (c .before .r .given .0 .0)
+refusal c = sym (opening c .opened .ensures) ∙ c .before .r .given .1
+
+rows : (c : tie.After-known-told2) → openedOf (start (opening-2 c) .args .sheet .now) ≡ Rows (c .before .r2 .given .0 .0) (c .before .r2 .given .0 .1 .0)
+rows c = sym (opening-2 c .opened .ensures) ∙ c .before .r2 .given .1
 
 opened-requires : tie.Need-opened-requires
 opened-requires c κs = search needs
@@ -40,7 +50,7 @@ unfolding listedOf
 returns c =
     let refused = c .before .before in
     let told = refused .before .before in
-    let a = told .before .before .before .before .before .before .args in
+    let a = start (opening told) .args in
     said (ap (listedOf (a .listing) (a .sheet .now)) (sym (refusal told))) (refused .refused .ensures)
 
 same-length-2 : tie.Need-same-length-2
@@ -52,7 +62,7 @@ returns-2 c =
     let lines = c .before .before in
     let header = lines .before .before .before .before in
     let told = header .before .before in
-    let a = told .before .before .before .before .before .before .args in
+    let a = start (opening-2 told) .args in
     said (ap (listedOf (a .listing) (a .sheet .now)) (sym (rows told))) (then (header .header .ensures) (lines .lines .ensures))
 
 pub listed-spec : {M : Type 1} → statement M

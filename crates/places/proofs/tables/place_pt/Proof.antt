@@ -18,7 +18,9 @@ outside-requires c κs = search needs
 
 returns-2 : tie.Need-returns-2
 unfolding placePT printed round ofBits ofInt
-returns-2 c = rw (← c .before .before .before .wild .ensures, c .before .before .if1 .left, ← c .before .outside .ensures, c .if2 .taken)
+returns-2 c =
+    let wild = c .before .before in
+    rw (← wild .before .wild .ensures, wild .if1 .left, ← c .before .outside .ensures, c .if2 .taken)
 
 outside-requires-2 : tie.Need-outside-requires-2
 outside-requires-2 c κs = search needs
@@ -26,11 +28,13 @@ outside-requires-2 c κs = search needs
 returns-3 : tie.Need-returns-3
 unfolding placePT printed round ofBits ofInt
 returns-3 c =
+    let pressure = c .before .before in
+    let wild = pressure .before .before in
     rw (
-      ← c .before .before .before .before .before .wild .ensures,
-      c .before .before .before .before .if1 .left,
-      ← c .before .before .before .outside .ensures,
-      c .before .before .if2 .left,
+      ← wild .before .wild .ensures,
+      wild .if1 .left,
+      ← pressure .before .outside .ensures,
+      pressure .if2 .left,
       ← c .before .outside2 .ensures,
       c .if3 .taken,
     )
@@ -41,13 +45,16 @@ table-requires c κs = search needs
 returns-4 : tie.Need-returns-4
 unfolding placePT printed round ofBits ofInt
 returns-4 c =
+    let temperature = c .before in
+    let pressure = temperature .before .before in
+    let wild = pressure .before .before in
     rw (
-      ← c .before .before .before .before .before .before .wild .ensures,
-      c .before .before .before .before .before .if1 .left,
-      ← c .before .before .before .before .outside .ensures,
-      c .before .before .before .if2 .left,
-      ← c .before .before .outside2 .ensures,
-      c .before .if3 .left,
+      ← wild .before .wild .ensures,
+      wild .if1 .left,
+      ← pressure .before .outside .ensures,
+      pressure .if2 .left,
+      ← temperature .before .outside2 .ensures,
+      temperature .if3 .left,
     ) (c .table .ensures)
 
 pub place-pt-spec : {M : Type 1} → statement M

@@ -28,13 +28,15 @@ saturated-requires c κs = search needs
 returns-2 : tie.Need-returns-2
 unfolding rangedOf printed round ofBits
 returns-2 c =
+    let line = c .before in
+    let range = line .before .before in
     rw (
-      ← c .before .before .before .before .before .before .property .ensures,
-      ← c .before .before .before .before .before .property2 .ensures,
-      ← c .before .before .before .before .outside .ensures,
-      c .before .before .before .if1 .left,
-      ← c .before .before .saturates .ensures,
-      c .before .if2 .taken,
+      ← range .before .before .before .property .ensures,
+      ← range .before .before .property2 .ensures,
+      ← range .before .outside .ensures,
+      range .if1 .left,
+      ← line .before .saturates .ensures,
+      line .if2 .taken,
     ) (c .saturated .ensures)
 
 dense-requires : tie.Need-dense-requires
@@ -43,13 +45,15 @@ dense-requires c κs = search needs
 returns-3 : tie.Need-returns-3
 unfolding rangedOf printed round ofBits
 returns-3 c =
+    let line = c .before in
+    let range = line .before .before in
     rw (
-      ← c .before .before .before .before .before .before .property .ensures,
-      ← c .before .before .before .before .before .property2 .ensures,
-      ← c .before .before .before .before .outside .ensures,
-      c .before .before .before .if1 .left,
-      ← c .before .before .saturates .ensures,
-      c .before .if2 .left,
+      ← range .before .before .before .property .ensures,
+      ← range .before .before .property2 .ensures,
+      ← range .before .outside .ensures,
+      range .if1 .left,
+      ← line .before .saturates .ensures,
+      line .if2 .left,
     ) (c .dense .ensures)
 
 pub ranged-spec : {M : Type 1} → statement M

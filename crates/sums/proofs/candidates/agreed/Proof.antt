@@ -26,24 +26,28 @@ returns : tie.Need-returns
 unfolding agrees agreedOf stateAt workedAt printed round ofBits
 returns c =
     let state = ap (λ (a : Full). rootedOf (a .worked .unrooted)) (c .before .before .before .full-marked-both .ensures) in
+    let full = c .before .before .before in
+    let place = full .before in
     rw (
-      ← c .before .before .before .before .before .before .place-pt .ensures,
-      ← c .before .before .before .before .before .is-in .ensures,
-      c .before .before .before .before .if1 .taken,
+      ← place .before .before .place-pt .ensures,
+      ← place .before .is-in .ensures,
+      place .if1 .taken,
       ← state,
       ← c .before .both-near .ensures,
       c .if2 .taken,
-      c .before .before .before .full-marked-both .ensures,
+      full .full-marked-both .ensures,
     )
 
 returns-2 : tie.Need-returns-2
 unfolding agrees agreedOf stateAt workedAt printed round ofBits
 returns-2 c =
     let state = ap (λ (a : Full). rootedOf (a .worked .unrooted)) (c .before .before .before .full-marked-both .ensures) in
+    let full = c .before .before .before in
+    let place = full .before in
     rw (
-      ← c .before .before .before .before .before .before .place-pt .ensures,
-      ← c .before .before .before .before .before .is-in .ensures,
-      c .before .before .before .before .if1 .taken,
+      ← place .before .before .place-pt .ensures,
+      ← place .before .is-in .ensures,
+      place .if1 .taken,
       ← state,
       ← c .before .both-near .ensures,
       c .if2 .left,
