@@ -39,7 +39,7 @@ returns-2 c =
     let S = c .before .before .before .before .before .before .before in
     let e : postedOf (S .args .kind) ≡ true = sym (c .before .before .before .before .before .before .posted .ensures) ∙ not-false _ (c .before .before .before .before .before .if1 .left) in
     let a : answerOf (S .args .kind) (S .args .p) (S .args .y) ≡ Answer.Single (c .before .before .answer .given .0 .0) = cc in
-    rw (e, a, ← c .first-bracket .ensures)
+    rw (e, a, ← c .first-bracket .ensures) refl
 
 returns-3 : tie.Need-returns-3
 unfolding judgedOf
@@ -47,7 +47,7 @@ returns-3 c =
     let S = c .before .before .before .before .before in
     let e : postedOf (S .args .kind) ≡ true = sym (c .before .before .before .before .posted .ensures) ∙ not-false _ (c .before .before .before .if1 .left) in
     let a : answerOf (S .args .kind) (S .args .p) (S .args .y) ≡ Answer.Wet (c .enum-told .given .0 .0) = cc in
-    rw (e, a)
+    rw (e, a) refl
 
 returns-4 : tie.Need-returns-4
 unfolding judgedOf
@@ -55,7 +55,7 @@ returns-4 c =
     let S = c .before .before .before .before .before .before in
     let e : postedOf (S .args .kind) ≡ true = sym (c .before .before .before .before .before .posted .ensures) ∙ not-false _ (c .before .before .before .before .if1 .left) in
     let a : answerOf (S .args .kind) (S .args .p) (S .args .y) ≡ Answer.Refused (c .before .answer2 .given .0 .0) = cc in
-    rw (e, a)
+    rw (e, a) refl
 
 pub judge-spec : {M : Type 1} → statement M
 judge-spec = tie.close (tie.spec posted-requires returns query-requires enum-known-answer first-bracket-requires enum-told enum-known-answer-2 returns-2 returns-3 returns-4)

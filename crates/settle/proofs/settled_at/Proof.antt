@@ -1,4 +1,5 @@
 -- `settle::settled_at` meets its contract: the state at the middle, marked by what was asked. Assumes nothing.
+use mathlib.Core.Path.{refl}
 use borrow.Author.Needs.{needs}
 use Rattle.settle.specs.Settle.{settledOf}
 use Rattle.settle.proofs.settled_at.Statement.{statement}
@@ -15,7 +16,7 @@ marked-requires c κs = search needs
 
 returns : tie.Need-returns
 unfolding settledOf
-returns c = rw (c .marked .ensures, c .before .middle .ensures, c .before .before .given .ensures)
+returns c = rw (c .marked .ensures, c .before .middle .ensures, c .before .before .given .ensures) refl
 
 pub settled-at-spec : {M : Type 1} → statement M
 settled-at-spec = tie.close (tie.spec given-requires middle-requires marked-requires returns)

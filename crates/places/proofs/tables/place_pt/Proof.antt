@@ -1,4 +1,5 @@
 -- `places::tables::place_pt` meets its contract: each return stands under the tests that led there. Assumes nothing.
+use mathlib.Core.Path.{refl}
 use borrow.Author.Needs.{needs}
 use lib.Ieee.{round, ofBits, ofInt}
 use Rattle.arith.specs.Printed.{printed}
@@ -11,7 +12,7 @@ wild-requires c κs = search needs
 
 returns : tie.Need-returns
 unfolding placePT printed round ofBits ofInt
-returns c = rw (← c .before .wild .ensures, c .if1 .taken)
+returns c = rw (← c .before .wild .ensures, c .if1 .taken) refl
 
 outside-requires : tie.Need-outside-requires
 outside-requires c κs = search needs
@@ -20,7 +21,7 @@ returns-2 : tie.Need-returns-2
 unfolding placePT printed round ofBits ofInt
 returns-2 c =
     let wild = c .before .before in
-    rw (← wild .before .wild .ensures, wild .if1 .left, ← c .before .outside .ensures, c .if2 .taken)
+    rw (← wild .before .wild .ensures, wild .if1 .left, ← c .before .outside .ensures, c .if2 .taken) refl
 
 outside-requires-2 : tie.Need-outside-requires-2
 outside-requires-2 c κs = search needs
@@ -37,7 +38,7 @@ returns-3 c =
       pressure .if2 .left,
       ← c .before .outside2 .ensures,
       c .if3 .taken,
-    )
+    ) refl
 
 table-requires : tie.Need-table-requires
 table-requires c κs = search needs

@@ -1,4 +1,5 @@
 -- `properties::gibbs::from_gamma` meets its contract: each field is its formula, with what `enthalpy` and `entropy` promise. Assumes nothing.
+use mathlib.Core.Path.{refl}
 use lib.Ieee.{ofInt, ofBits}
 use borrow.Author.Needs.{needs}
 use Rattle.properties.specs.Properties.{unrootedOf}
@@ -13,7 +14,7 @@ entropy-requires c κs = search needs
 
 returns : tie.Need-returns
 unfolding unrootedOf ofInt ofBits
-returns c = let e = c .before .before in rw (e .entropy .ensures, e .before .enthalpy .ensures)
+returns c = let e = c .before .before in rw (e .entropy .ensures, e .before .enthalpy .ensures) refl
 
 pub from-gamma-spec : {M : Type 1} → statement M
 from-gamma-spec = tie.close (tie.spec enthalpy-requires entropy-requires returns)

@@ -1,4 +1,5 @@
 -- `slopes::ratios::at` meets its contract: the numbers were judged, so each property has its changes, and the two determinants are made of them. Assumes nothing.
+use mathlib.Core.Path.{refl}
 use borrow.Author.Needs.{needs}
 use Rattle.slopes.specs.Slopes.{ratioAt}
 use Rattle.slopes.proofs.Known.{ranges}
@@ -33,7 +34,7 @@ returns c =
       c .before .before .before .determinant .ensures,
       c .before .before .before .before .change-of2 .ensures,
       c .before .before .before .before .before .change-of .ensures,
-    )
+    ) refl
 
 pub at-spec : {M : Type 1} → statement M
 at-spec =

@@ -1,4 +1,5 @@
 -- `states::mixing::mixture` meets its contract: each property is mixed by the one quality. Assumes nothing.
+use mathlib.Core.Path.{refl}
 use borrow.Author.Needs.{needs}
 use Rattle.properties.specs.Properties.{rootedOf}
 use Rattle.states.specs.Mixing.{mixtureOf}
@@ -37,7 +38,7 @@ returns c =
       c .before .before .before .before .mixed .ensures,
       c .before .before .before .before .before .given-of2 .ensures,
       c .before .before .before .before .before .before .given-of .ensures,
-    )
+    ) refl
 
 pub mixture-spec : {M : Type 1} → statement M
 mixture-spec =

@@ -1,4 +1,5 @@
 -- `states::worked::worked_apart` meets its contract: each return stands under the tests that led there, and works both from the same γ. Assumes nothing.
+use mathlib.Core.Path.{refl}
 use borrow.Author.Needs.{needs}
 use borrow.Author.Tests.{ne-eqb}
 use Rattle.states.specs.States.{unrootedAt, responseAt, workedAt}
@@ -13,7 +14,7 @@ returns c =
       c .before .unrooted-of .ensures,
       c .response-of .ensures,
       c .before .before .gamma .ensures,
-    )
+    ) refl
 
 returns-2 : tie.Need-returns-2
 unfolding workedAt unrootedAt responseAt
@@ -24,7 +25,7 @@ returns-2 c =
       c .before .unrooted-of2 .ensures,
       c .response-of2 .ensures,
       c .before .before .gamma2 .ensures,
-    )
+    ) refl
 
 returns-3 : tie.Need-returns-3
 unfolding workedAt unrootedAt responseAt
@@ -35,7 +36,7 @@ returns-3 c =
       c .before .unrooted-of3 .ensures,
       c .response-of3 .ensures,
       c .before .before .gamma3 .ensures,
-    )
+    ) refl
 
 pub worked-apart-spec : {M : Type 1} → statement M
 worked-apart-spec =

@@ -1,4 +1,5 @@
 -- `liquid::region1::Region1::gamma` meets its contract: the sums are what `point` and `six` promise. Assumes nothing.
+use mathlib.Core.Path.{refl}
 use lib.Ieee.{ofBits, neg}
 use borrow.Author.Needs.{needs}
 use Rattle.terms.specs.Six.{sixOf}
@@ -14,7 +15,7 @@ six-requires c κs = search needs
 
 returns : tie.Need-returns
 unfolding gamma1 sum1 sixOf ofBits neg
-returns c = rw (c .before .before .six .ensures, c .before .before .before .point .ensures)
+returns c = rw (c .before .before .six .ensures, c .before .before .before .point .ensures) refl
 
 pub gamma-spec : {M : Type 1} → statement M
 gamma-spec = tie.close (tie.spec point-requires six-requires returns)

@@ -1,4 +1,5 @@
 -- `liquid::region1::Region1::response_of` meets its contract: each field is its formula at the point that `point` promises. Assumes nothing.
+use mathlib.Core.Path.{refl}
 use lib.Ieee.{ofInt, ofBits}
 use borrow.Author.Needs.{needs}
 use Rattle.liquid.specs.Region1.{responseOf1}
@@ -10,7 +11,7 @@ point-requires c κs = search needs
 
 returns : tie.Need-returns
 unfolding responseOf1 ofInt ofBits
-returns c = rw (c .before .before .before .before .before .before .point .ensures)
+returns c = rw (c .before .before .before .before .before .before .point .ensures) refl
 
 pub response-of-spec : {M : Type 1} → statement M
 response-of-spec = tie.close (tie.spec point-requires returns)

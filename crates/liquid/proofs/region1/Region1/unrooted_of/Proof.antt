@@ -1,5 +1,6 @@
 -- `liquid::region1::Region1::unrooted_of` meets its contract: the quotient is Table 2's, and the rest is what `point` and `from_gamma` promise. Assumes
 -- nothing.
+use mathlib.Core.Path.{refl}
 use borrow.Author.Needs.{needs}
 use Rattle.liquid.specs.Region1.{unrootedOf1}
 use Rattle.liquid.proofs.region1.Region1.unrooted_of.Statement.{statement}
@@ -13,7 +14,7 @@ from-gamma-requires c κs = search needs
 
 returns : tie.Need-returns
 unfolding unrootedOf1
-returns c = rw (c .from-gamma .ensures, c .before .before .before .before .before .before .before .before .point .ensures)
+returns c = rw (c .from-gamma .ensures, c .before .before .before .before .before .before .before .before .point .ensures) refl
 
 pub unrooted-of-spec : {M : Type 1} → statement M
 unrooted-of-spec = tie.close (tie.spec point-requires from-gamma-requires returns)
