@@ -1,6 +1,5 @@
 -- Where a query lies: the region table of (p,T), and the regions of (p,h) and (p,s). Refusals come in the order of the refusal table. Definitions only.
 -- A comparison with NaN is false.
-use Prim.Native.Nat.{ℕ}
 use mathlib.Core.Bool.{Bool, true, false, cond, not, _||_}
 use lib.Ieee.{Float, lt, le}
 use Rattle.arith.specs.F64.{f64}
@@ -9,7 +8,11 @@ use Rattle.arith.specs.Bits.{finite}
 use Rattle.saturation.specs.Saturation.{psOf, tsOf}
 use Rattle.saturation.specs.Boundaries.{pB23, tB23}
 use Rattle.places.specs.declared.Place.{Place}
-use Rattle.places.specs.declared.Place.the-variants.{Region, Refused}
+use Rattle.places.specs.declared.Place.the-variants.{Equation, Refused}
+use Rattle.places.specs.declared.Side.{Side}
+use Rattle.places.specs.declared.Side.the-variants as Side
+use Rattle.states.specs.declared.Equation.the-variants.{Region1, Region2, Region5}
+use Rattle.states.specs.declared.Phase.the-variants.{Liquid, Vapour}
 use Rattle.states.specs.declared.Given.{Given}
 use Rattle.states.specs.States.{propertyAt}
 
@@ -59,10 +62,10 @@ pEnd = psOf t623
 -- the region table, read downwards; region 3 is refused by 5
 unfoldable pub tableOf : Float → Float → Place
 tableOf p t =
-    cond (le t t623) (cond (le (psOf t) p) (Region 1) (Region 2))
-    (cond (le t t863) (cond (le p (pB23 t)) (Region 2) (Refused 5))
-    (cond (le t t1073) (Region 2)
-    (cond (le p pMost5) (Region 5) (Refused 4))))
+    cond (le t t623) (cond (le (psOf t) p) (Equation Region1) (Equation Region2))
+    (cond (le t t863) (cond (le p (pB23 t)) (Equation Region2) (Refused 5))
+    (cond (le t t1073) (Equation Region2)
+    (cond (le p pMost5) (Equation Region5) (Refused 4))))
 
 unfoldable pub placePT : Float → Float → Place
 placePT p t =
@@ -74,30 +77,30 @@ placePT p t =
 -- ---- (p,h) and (p,s): y is the h or s given
 
 -- p ≤ P: y' and y'' are those of saturated liquid and vapour, and both are wet
-unfoldable pub saturatedOf : Given → Float → Float → Place
+unfoldable pub saturatedOf : Given → Float → Float → Side
 saturatedOf given p y =
-    cond (lt y (propertyAt given 1 p (tsOf p))) (Region 1)
-    (cond (le y (propertyAt given 2 p (tsOf p))) (Region 4)
-    (Region 2))
+    cond (lt y (propertyAt given Liquid p (tsOf p))) (Side.Phase Liquid)
+    (cond (le y (propertyAt given Vapour p (tsOf p))) Side.Wet
+    (Side.Phase Vapour))
 
 -- p > P: between the liquid up to 623.15 K and the vapour from the boundary B23 on lies region 3
-unfoldable pub denseOf : Given → Float → Float → Place
+unfoldable pub denseOf : Given → Float → Float → Side
 denseOf given p y =
-    cond (le y (propertyAt given 1 p t623)) (Region 1)
-    (cond (le (propertyAt given 2 p (tB23 p)) y) (Region 2)
-    (Refused 5))
+    cond (le y (propertyAt given Liquid p t623)) (Side.Phase Liquid)
+    (cond (le (propertyAt given Vapour p (tB23 p)) y) (Side.Phase Vapour)
+    (Side.Refused 5))
 
 -- y runs from that of region 1 at 273.15 K to that of region 2 at 1073.15 K
-unfoldable pub rangedOf : Given → Float → Float → Place
+unfoldable pub rangedOf : Given → Float → Float → Side
 rangedOf given p y =
-    cond (outside (propertyAt given 1 p t273) (propertyAt given 2 p t1073) y) (Refused 6)
+    cond (outside (propertyAt given Liquid p t273) (propertyAt given Vapour p t1073) y) (Side.Refused 6)
     (cond (le p pEnd) (saturatedOf given p y)
     (denseOf given p y))
 
-unfoldable pub placePY : Given → Float → Float → Place
+unfoldable pub placePY : Given → Float → Float → Side
 placePY given p y =
-    cond (wild p y) (Refused 1)
-    (cond (outside pTriple pMost p) (Refused 2)
+    cond (wild p y) (Side.Refused 1)
+    (cond (outside pTriple pMost p) (Side.Refused 2)
     (rangedOf given p y))
 
 -- the temperature at which region 1 ends, and at which region 2 begins: the saturation line up to P, region 3's boundaries above

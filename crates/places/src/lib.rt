@@ -8,11 +8,20 @@ mod tables;
 pub use limits::liquid_end;
 pub use limits::vapour_start;
 pub use ranges::wild;
+use states::Equation;
+use states::Phase;
 pub use tables::place_pt;
 pub use tables::place_py;
 
-// A region, or the refusal.
+// The equation of a (p,T), or the refusal.
 pub enum Place {
-    Region(u64),
+    Equation(Equation),
+    Refused(u64),
+}
+
+// Where p and an h or s lie: in one phase, between liquid and vapour, or the refusal.
+pub enum Side {
+    Phase(Phase),
+    Wet,
     Refused(u64),
 }

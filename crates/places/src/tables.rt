@@ -1,9 +1,12 @@
 // The region tables (specs/Places.antt).
 use crate::Place;
+use crate::Side;
 use crate::limits::saturates;
 use crate::ranges::outside;
 use crate::ranges::wild;
+use states::Equation;
 use states::Given;
+use states::Phase;
 use states::property;
 ghost use mathlib.Core.Path.{_≡_};
 ghost use Rattle.places.specs.Places.{tableOf, placePT, saturatedOf, denseOf, rangedOf, placePY};
@@ -14,26 +17,26 @@ fn table(p: f64, t: f64) -> Place
 {
     if t <= 623.15 {
         if saturation::ps(t) <= p {
-            return Place::Region(1);
+            return Place::Equation(Equation::Region1);
         }
-        return Place::Region(2);
+        return Place::Equation(Equation::Region2);
     }
     if t <= 863.15 {
         if p <= saturation::p_b23(t) {
-            return Place::Region(2);
+            return Place::Equation(Equation::Region2);
         }
         return Place::Refused(5);
     }
     if t <= 1073.15 {
-        return Place::Region(2);
+        return Place::Equation(Equation::Region2);
     }
     if p <= 10.0 {
-        return Place::Region(5);
+        return Place::Equation(Equation::Region5);
     }
     Place::Refused(4)
 }
 
-// The region of (p,T), or the refusal.
+// The equation of (p,T), or the refusal.
 pub fn place_pt(p: f64, t: f64) -> Place
     ensures { λ r. ⌜ r ≡ placePT p t ⌝ }
 {
@@ -50,40 +53,40 @@ pub fn place_pt(p: f64, t: f64) -> Place
 }
 
 // Up to P: liquid, wet or vapour, by the saturated states.
-fn saturated(given: Given, p: f64, y: f64) -> Place
+fn saturated(given: Given, p: f64, y: f64) -> Side
     ensures { λ r. ⌜ r ≡ saturatedOf given p y ⌝ }
 {
     let t = saturation::ts(p);
-    if y < property(given, 1, p, t) {
-        return Place::Region(1);
+    if y < property(given, Phase::Liquid, p, t) {
+        return Side::Phase(Phase::Liquid);
     }
-    if y <= property(given, 2, p, t) {
-        return Place::Region(4);
+    if y <= property(given, Phase::Vapour, p, t) {
+        return Side::Wet;
     }
-    Place::Region(2)
+    Side::Phase(Phase::Vapour)
 }
 
 // Above P: liquid, vapour, or region 3 between them.
-fn dense(given: Given, p: f64, y: f64) -> Place
+fn dense(given: Given, p: f64, y: f64) -> Side
     ensures { λ r. ⌜ r ≡ denseOf given p y ⌝ }
 {
-    if y <= property(given, 1, p, 623.15) {
-        return Place::Region(1);
+    if y <= property(given, Phase::Liquid, p, 623.15) {
+        return Side::Phase(Phase::Liquid);
     }
-    if y >= property(given, 2, p, saturation::t_b23(p)) {
-        return Place::Region(2);
+    if y >= property(given, Phase::Vapour, p, saturation::t_b23(p)) {
+        return Side::Phase(Phase::Vapour);
     }
-    Place::Refused(5)
+    Side::Refused(5)
 }
 
 // Within the range of y at p, by the way that p lies to P.
-fn ranged(given: Given, p: f64, y: f64) -> Place
+fn ranged(given: Given, p: f64, y: f64) -> Side
     ensures { λ r. ⌜ r ≡ rangedOf given p y ⌝ }
 {
-    let least = property(given, 1, p, 273.15);
-    let most = property(given, 2, p, 1073.15);
+    let least = property(given, Phase::Liquid, p, 273.15);
+    let most = property(given, Phase::Vapour, p, 1073.15);
     if outside(least, most, y) {
-        return Place::Refused(6);
+        return Side::Refused(6);
     }
     if saturates(p) {
         return saturated(given, p, y);
@@ -91,15 +94,15 @@ fn ranged(given: Given, p: f64, y: f64) -> Place
     dense(given, p, y)
 }
 
-// The region of p and an h or s, 4 for a wet state, or the refusal.
-pub fn place_py(given: Given, p: f64, y: f64) -> Place
+// Where p and an h or s lie, or the refusal.
+pub fn place_py(given: Given, p: f64, y: f64) -> Side
     ensures { λ r. ⌜ r ≡ placePY given p y ⌝ }
 {
     if wild(p, y) {
-        return Place::Refused(1);
+        return Side::Refused(1);
     }
     if outside(0.000611213, 100.0, p) {
-        return Place::Refused(2);
+        return Side::Refused(2);
     }
     ranged(given, p, y)
 }

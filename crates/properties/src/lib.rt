@@ -45,3 +45,9 @@ pub struct Response {
     pub alpha: f64,
     pub kappa: f64,
 }
+
+// A value that an answer may lack.
+pub enum Value {
+    Is(f64),
+    Missing,
+}

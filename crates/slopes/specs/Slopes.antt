@@ -1,71 +1,77 @@
 -- Derivatives of a single-phase state, by 001: for properties z, x, y among p, T, v, u, h, s, g, f, numbered 1 to 8, (∂z/∂x) at constant y is
--- (z_p·y_T - z_T·y_p) / (x_p·y_T - x_T·y_p). There p is in kPa, so that v·p is in kJ/kg. Definitions only.
+-- (z_p·y_T - z_T·y_p) / (x_p·y_T - x_T·y_p) for an equation in p and T, and the same with its own two variables for any other. There p is in kPa, so that v·p
+-- is in kJ/kg. Definitions only.
 use Prim.Native.Nat.{ℕ, _-_}
 use mathlib.Core.Bool.{Bool, cond, not, _&&_, _||_}
-use mathlib.Core.List.{List, [], _∷_}
+use mathlib.Core.List.{[], _∷_}
 use lib.Dec.{leb}
 use lib.ListN.{getD}
 use lib.Ieee.{Float, nan, neg, eq}
 use Rattle.arith.specs.F64.{f64, _⊖_, _⊗_, _⊘_}
 use Rattle.arith.specs.Bits.{finite}
+use Rattle.properties.specs.declared.Unrooted.{Unrooted}
 use Rattle.properties.specs.declared.Response.{Response}
-use Rattle.states.specs.declared.Single.{Single}
-use Rattle.slopes.specs.declared.rows.Change.{Change}
+use Rattle.slopes.specs.declared.Row.{Row}
+use Rattle.slopes.specs.declared.Slopes.{Slopes}
+use Rattle.slopes.specs.declared.ratios.Change.{Change}
 use Rattle.slopes.specs.declared.Derivative.{Derivative}
 use Rattle.slopes.specs.declared.Derivative.the-variants.{Value, Refused}
 
--- p in kPa
-abbrev pub kPa : Float → Float
-kPa p = f64 1000 ⊗ p
+-- ---- an equation in p and T: regions 1, 2 and 5
 
--- The derivatives by p at constant T, in the order of the numbers: of p, T, v, u, h, s, g, f. P is p in kPa.
-unfoldable pub byP : Single → Response → List Float
-byP a r =
-    let P = kPa (a .p) in
-    let v = a .state .v in
-    f64 1
-    ∷ f64 0
-    ∷ neg (v ⊗ r .kappa)
-    ∷ (v ⊗ (P ⊗ r .kappa ⊖ a .t ⊗ r .alpha))
-    ∷ (v ⊗ (f64 1 ⊖ a .t ⊗ r .alpha))
-    ∷ neg (v ⊗ r .alpha)
-    ∷ v
-    ∷ (P ⊗ v ⊗ r .kappa)
-    ∷ []
+-- The derivatives by p at constant T. P is p in kPa, α and κ are those of 001.
+abbrev pub byP : (P t : Float) → Unrooted → Response → Row
+byP P t a r =
+    record {
+      p = f64 1;
+      t = f64 0;
+      v = neg (a .v ⊗ r .kappa);
+      u = a .v ⊗ (P ⊗ r .kappa ⊖ t ⊗ r .alpha);
+      h = a .v ⊗ (f64 1 ⊖ t ⊗ r .alpha);
+      s = neg (a .v ⊗ r .alpha);
+      g = a .v;
+      f = P ⊗ a .v ⊗ r .kappa;
+    }
 
--- the derivatives by T at constant p, in the same order
-unfoldable pub byT : Single → Response → List Float
-byT a r =
-    let v = a .state .v in
-    let Pvα = kPa (a .p) ⊗ v ⊗ r .alpha in
-    f64 0
-    ∷ f64 1
-    ∷ (v ⊗ r .alpha)
-    ∷ (a .state .cp ⊖ Pvα)
-    ∷ a .state .cp
-    ∷ (a .state .cp ⊘ a .t)
-    ∷ neg (a .state .s)
-    ∷ (neg Pvα ⊖ a .state .s)
-    ∷ []
+-- the derivatives by T at constant p
+abbrev pub byT : (P t : Float) → Unrooted → Response → Row
+byT P t a r =
+    let Pvα = P ⊗ a .v ⊗ r .alpha in
+    record {
+      p = f64 0;
+      t = f64 1;
+      v = a .v ⊗ r .alpha;
+      u = a .cp ⊖ Pvα;
+      h = a .cp;
+      s = a .cp ⊘ t;
+      g = neg (a .s);
+      f = neg Pvα ⊖ a .s;
+    }
 
--- property n's derivative in such a list; another number has none
-abbrev pub slope : List Float → ℕ → Float
-slope slopes n = getD slopes (n - 1) nan
+-- p in MPa becomes kPa
+unfoldable pub slopesPT : (p t : Float) → Unrooted → Response → Slopes
+slopesPT p t a r = let P = f64 1000 ⊗ p in record { first = byP P t a r; second = byT P t a r }
+
+-- ---- any equation
+
+-- property n's derivative in a row; another number has none
+abbrev pub slope : Row → ℕ → Float
+slope r n = getD (r .p ∷ r .t ∷ r .v ∷ r .u ∷ r .h ∷ r .s ∷ r .g ∷ r .f ∷ []) (n - 1) nan
 
 -- both of its derivatives
-abbrev pub changeOf : Single → Response → ℕ → Change
-changeOf a r n = record { p = slope (byP a r) n; t = slope (byT a r) n }
+abbrev pub changeOf : Slopes → ℕ → Change
+changeOf a n = record { first = slope (a .first) n; second = slope (a .second) n }
 
--- z_p·y_T - z_T·y_p
-abbrev pub determinant : List Float → List Float → ℕ → ℕ → Float
-determinant ps ts z y = slope ps z ⊗ slope ts y ⊖ slope ts z ⊗ slope ps y
+-- z_1·y_2 - z_2·y_1, of the derivatives by the first variable and by the second
+abbrev pub determinant : Slopes → ℕ → ℕ → Float
+determinant a z y = slope (a .first) z ⊗ slope (a .second) y ⊖ slope (a .second) z ⊗ slope (a .first) y
 
 -- a denominator that is zero, of either sign, or not finite, is refused by 8
 abbrev pub ratioOf : Float → Float → Derivative
 ratioOf above below = cond (eq below (f64 0) || not (finite below)) (Refused 8) (Value (above ⊘ below))
 
-unfoldable pub ratioAt : Single → Response → ℕ → ℕ → ℕ → Derivative
-ratioAt a r z x y = ratioOf (determinant (byP a r) (byT a r) z y) (determinant (byP a r) (byT a r) x y)
+unfoldable pub ratioAt : Slopes → ℕ → ℕ → ℕ → Derivative
+ratioAt a z x y = ratioOf (determinant a z y) (determinant a x y)
 
 -- the number of a property
 abbrev pub known : ℕ → Bool
@@ -75,5 +81,5 @@ unfoldable pub allKnown : ℕ → ℕ → ℕ → Bool
 allKnown z x y = known z && (known x && known y)
 
 -- a number that is no property's is refused by 9
-unfoldable pub derivativeAt : Single → Response → ℕ → ℕ → ℕ → Derivative
-derivativeAt a r z x y = cond (allKnown z x y) (ratioAt a r z x y) (Refused 9)
+unfoldable pub derivativeAt : Slopes → ℕ → ℕ → ℕ → Derivative
+derivativeAt a z x y = cond (allKnown z x y) (ratioAt a z x y) (Refused 9)

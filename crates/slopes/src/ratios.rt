@@ -1,20 +1,67 @@
 // Quotients of two determinants of slopes (specs/Slopes.antt).
 use crate::Derivative;
+use crate::Slopes;
 use crate::numbers::all_known;
-use crate::rows::Change;
-use crate::rows::change_of;
-use states::Full;
 ghost use mathlib.Core.Path.{_≡_};
 ghost use mathlib.Core.Bool.{true};
+ghost use Prim.Native.Nat.{_≤_};
 ghost use Rattle.arith.specs.F64.{_⊖_, _⊗_};
-ghost use Rattle.states.specs.Marks.{handedOut};
-ghost use Rattle.slopes.specs.Slopes.{ratioOf, ratioAt, allKnown, derivativeAt};
+ghost use Rattle.slopes.specs.Slopes.{changeOf, ratioOf, ratioAt, allKnown, derivativeAt};
 
-// z_p·y_T - z_T·y_p.
-fn determinant(z: Change, y: Change) -> f64
-    ensures { λ r. ⌜ r ≡ z .p ⊗ y .t ⊖ z .t ⊗ y .p ⌝ }
+// How one property changes with the first variable, and with the second.
+pub struct Change {
+    pub first: f64,
+    pub second: f64,
+}
+
+// Of property n: p, T, v, u, h, s, g, f are 1 to 8.
+fn change_of(a: Slopes, n: u64) -> Change
+    requires { ⌜ (1 ≤ n) × (n ≤ 8) ⌝ }
+    ensures { λ r. ⌜ r ≡ changeOf a n ⌝ }
 {
-    z.p * y.t - z.t * y.p
+    let by = a.first;
+    let other = a.second;
+    match n {
+        1 => Change {
+            first: by.p,
+            second: other.p,
+        },
+        2 => Change {
+            first: by.t,
+            second: other.t,
+        },
+        3 => Change {
+            first: by.v,
+            second: other.v,
+        },
+        4 => Change {
+            first: by.u,
+            second: other.u,
+        },
+        5 => Change {
+            first: by.h,
+            second: other.h,
+        },
+        6 => Change {
+            first: by.s,
+            second: other.s,
+        },
+        7 => Change {
+            first: by.g,
+            second: other.g,
+        },
+        _ => Change {
+            first: by.f,
+            second: other.f,
+        },
+    }
+}
+
+// z_1·y_2 - z_2·y_1.
+fn determinant(z: Change, y: Change) -> f64
+    ensures { λ r. ⌜ r ≡ z .first ⊗ y .second ⊖ z .second ⊗ y .first ⌝ }
+{
+    z.first * y.second - z.second * y.first
 }
 
 // A quotient, or 8 if its denominator is zero or not finite.
@@ -30,10 +77,10 @@ fn ratio(above: f64, below: f64) -> Derivative
     Derivative::Value(above / below)
 }
 
-// The quotient at a state.
-fn at(a: Full, z: u64, x: u64, y: u64) -> Derivative
+// The quotient at a state, from its slopes.
+fn at(a: Slopes, z: u64, x: u64, y: u64) -> Derivative
     requires { ⌜ allKnown z x y ≡ true ⌝ }
-    ensures { λ q. ⌜ q ≡ ratioAt (handedOut a) (a .worked .response) z x y ⌝ }
+    ensures { λ q. ⌜ q ≡ ratioAt a z x y ⌝ }
 {
     let held = change_of(a, y);
     let above = determinant(change_of(a, z), held);
@@ -41,9 +88,9 @@ fn at(a: Full, z: u64, x: u64, y: u64) -> Derivative
     ratio(above, below)
 }
 
-// The derivative of property z by property x at constant y, numbered 1 to 8, at a state.
-pub fn quotient(a: Full, z: u64, x: u64, y: u64) -> Derivative
-    ensures { λ q. ⌜ q ≡ derivativeAt (handedOut a) (a .worked .response) z x y ⌝ }
+// The derivative of property z by property x at constant y, numbered 1 to 8, at a state, from its slopes.
+pub fn quotient(a: Slopes, z: u64, x: u64, y: u64) -> Derivative
+    ensures { λ q. ⌜ q ≡ derivativeAt a z x y ⌝ }
 {
     if all_known(z, x, y) {
         return at(a, z, x, y);

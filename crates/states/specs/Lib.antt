@@ -1,3 +1,4 @@
+pub mod Equations
 pub mod States
 pub mod Marks
 pub mod Mixing

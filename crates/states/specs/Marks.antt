@@ -1,5 +1,4 @@
 -- Single-phase states with their marks. Definitions only.
-use Prim.Native.Nat.{ℕ}
 use mathlib.Core.Bool.{Bool, false, cond, _&&_}
 use lib.Ieee.{Float, neg, lt, le}
 use Rattle.arith.specs.F64.{f64, _⊖_}
@@ -10,7 +9,7 @@ use Rattle.states.specs.States.{stateAt, workedAt, givenOf}
 use Rattle.states.specs.declared.Given.{Given}
 use Rattle.states.specs.declared.Single.{Single}
 use Rattle.states.specs.declared.Full.{Full}
-use Rattle.states.specs.declared.worked.Worked.{Worked}
+use Rattle.states.specs.declared.Equation.{Equation}
 
 -- ---- the mark
 
@@ -35,28 +34,23 @@ bothNear hMargin sMargin a h s = near hMargin (a .h) h && near sMargin (a .s) s
 
 -- ---- states
 
--- of one phase, in a region at p and T, with a mark
-abbrev pub singleOf : ℕ → Float → Float → Bool → Single
-singleOf region p t verified = record { region = region; p = p; t = t; state = stateAt region p t; verified = verified }
+-- of one phase, by an equation at p and T, with a mark
+abbrev pub singleOf : Equation → Float → Float → Bool → Single
+singleOf equation p t verified = record { equation = equation; p = p; t = t; state = stateAt equation p t; verified = verified }
 
 -- the same, marked by the h or s asked
-unfoldable pub markedOf : Given → ℕ → Float → Float → Float → Single
-markedOf given region p y t = singleOf region p t (verifiedOf given (stateAt region p t .h) (stateAt region p t .s) y)
+unfoldable pub markedOf : Given → Equation → Float → Float → Float → Single
+markedOf given equation p y t = let a = stateAt equation p t in singleOf equation p t (verifiedOf given (a .h) (a .s) y)
 
 -- the same, marked by both h and s
-abbrev pub markedBothOf : ℕ → Float → Float → Float → Float → Single
-markedBothOf region p t h s = singleOf region p t (bothNear hMargin sMargin (stateAt region p t) h s)
+abbrev pub markedBothOf : Equation → Float → Float → Float → Float → Single
+markedBothOf equation p t h s = singleOf equation p t (bothNear hMargin sMargin (stateAt equation p t) h s)
 
--- ---- as a state is carried: with w squared yet, so that its root is taken only where a state is handed out, and with the α and κ that a derivative of it
--- needs, so that nothing is summed twice
-
--- a state as it was worked, with its mark
-abbrev pub fullWith : ℕ → Float → Float → Worked → Bool → Full
-fullWith region p t worked verified = record { region = region; p = p; t = t; worked = worked; verified = verified }
+-- ---- as a state is carried: with w squared yet, so that its root is taken only where it is handed out, and with its slopes, so that nothing is summed twice
 
 abbrev pub fullOf : Single → Full
-fullOf a = fullWith (a .region) (a .p) (a .t) (workedAt (a .region) (a .p) (a .t)) (a .verified)
+fullOf a = record { equation = a .equation; p = a .p; t = a .t; worked = workedAt (a .equation) (a .p) (a .t); verified = a .verified }
 
 -- as it is handed out
 abbrev pub handedOut : Full → Single
-handedOut a = record { region = a .region; p = a .p; t = a .t; state = rootedOf (a .worked .unrooted); verified = a .verified }
+handedOut a = record { equation = a .equation; p = a .p; t = a .t; state = rootedOf (a .worked .unrooted); verified = a .verified }

@@ -1,16 +1,25 @@
 // Single-phase states with their marks (specs/Marks.antt).
+use crate::Equation;
 use crate::Full;
 use crate::Given;
+use crate::Phase;
 use crate::Single;
-use crate::worked::Worked;
+use crate::equations::equation_of;
 use crate::worked::given_of;
+use crate::worked::unrooted_at;
 use crate::worked::worked_at;
 use properties::Unrooted;
 use properties::rooted;
 ghost use mathlib.Core.Path.{_≡_};
 ghost use mathlib.Core.Bool.{true};
 ghost use Rattle.properties.specs.Properties.{rootedOf};
-ghost use Rattle.states.specs.Marks.{near, verifiedOf, bothNear, singleOf, markedOf, markedBothOf, fullWith, fullOf, handedOut};
+ghost use Rattle.states.specs.Equations.{equationOf};
+ghost use Rattle.states.specs.Marks.{near, verifiedOf, bothNear, singleOf, markedOf, markedBothOf, fullOf, handedOut};
+
+// The margins of a verified state: of h in kJ/kg, and of s in kJ/(kg K).
+const H_MARGIN: f64 = 0.08;
+
+const S_MARGIN: f64 = 0.0001;
 
 // Whether x and y differ by at most the margin.
 fn near(margin: f64, x: f64, y: f64) -> bool
@@ -23,12 +32,15 @@ fn near(margin: f64, x: f64, y: f64) -> bool
     d <= margin
 }
 
-// Whether an h in kJ/kg and an s in kJ/(kg K) come back to the one that was asked: h within 0.08, s
-// within 0.0001.
+// Whether an h in kJ/kg and an s in kJ/(kg K) come back to the one that was asked.
 pub(crate) fn verified(given: Given, h: f64, s: f64, y: f64) -> bool
     ensures { λ r. ⌜ r ≡ verifiedOf given h s y ⌝ }
 {
-    near(given_of(given, 0.08, 0.0001), given_of(given, h, s), y)
+    near(
+        given_of(given, H_MARGIN, S_MARGIN),
+        given_of(given, h, s),
+        y,
+    )
 }
 
 // Whether both h and s of a state are within the margins dh and ds.
@@ -38,43 +50,46 @@ pub fn both_near(dh: f64, ds: f64, a: Unrooted, h: f64, s: f64) -> bool
     near(dh, a.h, h) && near(ds, a.s, s)
 }
 
-// A state as it was worked in a region at p and T, with its mark.
-fn with_mark(region: u64, p: f64, t: f64, worked: Worked, verified: bool) -> Full
-    ensures { λ r. ⌜ r ≡ fullWith region p t worked verified ⌝ }
+// The state of an equation at p and T: nothing was asked back, so it is verified.
+pub fn state_at(equation: Equation, p: f64, t: f64) -> Single
+    ensures { λ r. ⌜ r ≡ singleOf equation p t true ⌝ }
 {
-    Full {
-        region,
+    Single {
+        equation,
         p,
         t,
-        worked,
-        verified,
+        state: rooted(unrooted_at(equation, p, t)),
+        verified: true,
     }
 }
 
-// The state in a region at p and T: nothing was asked back, so it is verified.
-pub fn full_at(region: u64, p: f64, t: f64) -> Full
-    ensures { λ r. ⌜ r ≡ fullOf (singleOf region p t true) ⌝ }
+// The state of an equation at p and T, marked by the h or s that was asked.
+pub fn marked(given: Given, equation: Equation, p: f64, y: f64, t: f64) -> Single
+    ensures { λ r. ⌜ r ≡ markedOf given equation p y t ⌝ }
 {
-    with_mark(region, p, t, worked_at(region, p, t), true)
+    let a = unrooted_at(equation, p, t);
+    Single {
+        equation,
+        p,
+        t,
+        state: rooted(a),
+        verified: verified(given, a.h, a.s, y),
+    }
 }
 
-// The state in a region at p and T, marked by the h or s that was asked.
-pub fn full_marked(given: Given, region: u64, p: f64, y: f64, t: f64) -> Full
-    ensures { λ r. ⌜ r ≡ fullOf (markedOf given region p y t) ⌝ }
+// The state of a phase at p and T with its slopes, marked by both the h and the s that were asked.
+pub fn carried(phase: Phase, p: f64, t: f64, h: f64, s: f64) -> Full
+    ensures { λ r. ⌜ r ≡ fullOf (markedBothOf (equationOf phase) p t h s) ⌝ }
 {
-    let a = worked_at(region, p, t);
-    let back = verified(given, a.unrooted.h, a.unrooted.s, y);
-    with_mark(region, p, t, a, back)
-}
-
-// The state in a region at p and T, marked by both the h and the s that were asked.
-pub fn full_marked_both(region: u64, p: f64, t: f64, h: f64, s: f64) -> Full
-    ensures { λ r. ⌜ r ≡ fullOf (markedBothOf region p t h s) ⌝ }
-{
-    let a = worked_at(region, p, t);
-    let unrooted = a.unrooted;
-    let back = both_near(0.08, 0.0001, unrooted, h, s);
-    with_mark(region, p, t, a, back)
+    let worked = worked_at(phase, p, t);
+    let unrooted = worked.unrooted;
+    Full {
+        equation: equation_of(phase),
+        p,
+        t,
+        worked,
+        verified: both_near(H_MARGIN, S_MARGIN, unrooted, h, s),
+    }
 }
 
 // A state as it is handed out: w by its root, and without what derivatives need.
@@ -82,18 +97,12 @@ pub fn handed_out(a: Full) -> Single
     ensures { λ r. ⌜ r ≡ handedOut a ⌝ }
 {
     let unrooted = a.worked.unrooted;
+    let equation = a.equation;
     Single {
-        region: a.region,
+        equation,
         p: a.p,
         t: a.t,
         state: rooted(unrooted),
         verified: a.verified,
     }
-}
-
-// The state of `full_marked` as it is handed out.
-pub fn marked(given: Given, region: u64, p: f64, y: f64, t: f64) -> Single
-    ensures { λ r. ⌜ r ≡ markedOf given region p y t ⌝ }
-{
-    handed_out(full_marked(given, region, p, y, t))
 }

@@ -1,19 +1,16 @@
--- `states::marks::marked` meets its contract: it hands out what `full_marked` carries. Assumes nothing.
+-- `states::marks::marked` meets its contract: state and mark are made of one working. Assumes nothing.
+use mathlib.Core.Path.{refl}
 use borrow.Author.Needs.{needs}
+use Rattle.properties.specs.Properties.{rootedOf}
+use Rattle.states.specs.States.{stateAt}
 use Rattle.states.specs.Marks.{markedOf}
-use Rattle.states.specs.States.{stateAt, workedAt}
 use Rattle.states.proofs.marks.marked.Statement.{statement}
 use Rattle.states.proofs.marks.marked.Tie as tie
 
-full-marked-requires : tie.Need-full-marked-requires
-full-marked-requires c κs = search needs
-
-handed-out-requires : tie.Need-handed-out-requires
-handed-out-requires c κs = search needs
-
 returns : tie.Need-returns
-unfolding markedOf stateAt workedAt
-returns c = rw (c .handed-out .ensures, c .before .full-marked .ensures)
+unfolding markedOf stateAt rootedOf
+returns c = rw (c .verified .ensures, c .before .rooted .ensures, c .before .before .unrooted-at .ensures) refl
 
 pub marked-spec : {M : Type 1} → statement M
-marked-spec = tie.close (tie.spec full-marked-requires handed-out-requires returns)
+marked-spec =
+    tie.close (tie.spec (λ c κs. search needs) (λ c κs. search needs) (λ c κs. search needs) returns)

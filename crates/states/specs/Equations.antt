@@ -1,0 +1,16 @@
+-- The basic equations by the numbers of their regions, and the equations of the two phases. Definitions only.
+use Prim.Native.Nat.{ℕ}
+use Rattle.states.specs.declared.Equation.{Equation}
+use Rattle.states.specs.declared.Equation.the-variants.{Region1, Region2, Region5}
+use Rattle.states.specs.declared.Phase.{Phase}
+use Rattle.states.specs.declared.Phase.the-variants.{Liquid, Vapour}
+
+abbrev pub regionOf : Equation → ℕ
+regionOf Region1 = 1
+regionOf Region2 = 2
+regionOf Region5 = 5
+
+-- the phases that backward equations reach
+abbrev pub equationOf : Phase → Equation
+equationOf Liquid = Region1
+equationOf Vapour = Region2
