@@ -6,21 +6,19 @@ use mathlib.Core.Logic.{⊎-elim}
 use Prim.Native.Nat.{ℕ}
 use denote.Enum.Declared.{tagOf}
 use types.Run.{OneOf}
-use mathlib.Core.Bool.{Bool, true, false, cond}
-use lib.Dec.{eqb}
 use lib.Ieee.{Float}
 use Rattle.states.specs.declared.Given.{Given}
 use Rattle.states.specs.Marks.{markedOf}
-use Rattle.states.specs.Mixing.{wetOf}
 use Rattle.states.specs.States.{stateAt, workedAt}
-use Rattle.slopes.specs.Slopes.{ratioAt, byP, byT}
 use Rattle.places.specs.declared.Place.{Place}
 use Rattle.places.specs.declared.Place.the-variants as Place
+use Rattle.places.specs.declared.Side.{Side}
+use Rattle.places.specs.declared.Side.the-variants as Side
 use Rattle.places.specs.Places.{placePT, placePY}
 use Rattle.sums.proofs.outcomes.Outcome.{the-type}
 use Rattle.sums.proofs.Forward.{Forward}
 use Rattle.sums.proofs.Forward.Forward.{single, wet, refused}
-use Rattle.sums.specs.Queries.{firstOf, temperatureOf, placedPT, answerPT, placedPY, answerPY}
+use Rattle.sums.specs.Queries.{firstOf, placedPT, answerPT, placedPY, answerPY}
 use Rattle.sums.specs.Quotients.{quotientAt}
 use Rattle.sums.specs.Outcomes.{outcomeOf, quotientCarried, shownOf, foundOf, quotientFound, verifiedIn, markedIn}
 use Rattle.sums.specs.declared.Answer.{Answer}
@@ -64,9 +62,7 @@ quotient-same single z x y = refl
 quotient-same wet z x y = refl
 quotient-same refused z x y = refl
 
--- the mark has no part in it
 pub quotient-there : {a : Answer} → Forward a → (z x y : ℕ) → quotientAt a z x y ≡ quotientFound (foundOf a) z x y
-unfolding ratioAt byP byT
 quotient-there single z x y = refl
 quotient-there wet z x y = refl
 quotient-there refused z x y = refl
@@ -74,23 +70,18 @@ quotient-there refused z x y = refl
 -- ---- the answer where a state was found
 
 placed-pt : (p t : Float) (w : Place) → verifiedIn (foundOf (placedPT p t w)) ≡ placedPT p t w
-placed-pt p t (Place.Region n) = refl
+placed-pt p t (Place.Equation equation) = refl
 placed-pt p t (Place.Refused n) = refl
 
 pub pt-same : (p t : Float) → verifiedIn (foundOf (answerPT p t)) ≡ answerPT p t
 unfolding answerPT
 pt-same p t = placed-pt p t (placePT p t)
 
-phase : (given : Given) (p y : Float) (n : ℕ) (b : Bool) →
-    let a = cond b (Answer.Wet (wetOf given p y)) (Answer.Single (markedOf given n p y (temperatureOf given n p y))) in
-    markedIn given y (foundOf a) ≡ a
+placed-py : (given : Given) (p y : Float) (w : Side) → markedIn given y (foundOf (placedPY given p y w)) ≡ placedPY given p y w
 unfolding markedOf
-phase given p y n true = refl
-phase given p y n false = refl
-
-placed-py : (given : Given) (p y : Float) (w : Place) → markedIn given y (foundOf (placedPY given p y w)) ≡ placedPY given p y w
-placed-py given p y (Place.Region n) = phase given p y n (eqb n 4)
-placed-py given p y (Place.Refused n) = refl
+placed-py given p y (Side.Phase phase) = refl
+placed-py given p y Side.Wet = refl
+placed-py given p y (Side.Refused n) = refl
 
 pub py-same : (given : Given) (p y : Float) → markedIn given y (foundOf (answerPY given p y)) ≡ answerPY given p y
 unfolding answerPY

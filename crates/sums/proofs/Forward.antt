@@ -1,21 +1,26 @@
--- A state of one phase that a query gives is that of its region at its p and T, with a mark. Assumes nothing.
+-- A state of one phase that a query gives is that of its equation at its p and T, with a mark. Assumes nothing.
 use mathlib.Core.Bool.{Bool, true, false, cond}
 use Prim.Native.Nat.{ℕ}
 use lib.Dec.{eqb}
 use lib.Ieee.{Float, le}
 use Rattle.states.specs.declared.Given.{Given}
 use Rattle.states.specs.declared.Given.the-variants.{Enthalpy, Entropy}
+use Rattle.states.specs.declared.Equation.{Equation}
+use Rattle.states.specs.declared.Phase.{Phase}
+use Rattle.states.specs.declared.Phase.the-variants.{Liquid, Vapour}
 use Rattle.states.specs.declared.Wet.{Wet}
 use Rattle.states.specs.Marks.{singleOf, markedOf}
 use Rattle.places.specs.declared.Place.{Place}
 use Rattle.places.specs.declared.Place.the-variants as Place
+use Rattle.places.specs.declared.Side.{Side}
+use Rattle.places.specs.declared.Side.the-variants as Side
 use Rattle.places.specs.Places.{wild, pTriple, placePT, placePY}
 use Rattle.sums.specs.declared.Answer.{Answer}
 use Rattle.sums.specs.declared.Answer.the-variants as Answer
 use Rattle.sums.specs.Queries.{placedPT, answerPT, placedPY, answerPY, pressureOf, agrees, agreedOf, candidateOf, firstOf, answerHS, answerOf}
 
 pub data Forward : Answer → Type 0 where
-  single : {region : ℕ} {p t : Float} {verified : Bool} → Forward (Answer.Single (singleOf region p t verified))
+  single : {equation : Equation} {p t : Float} {verified : Bool} → Forward (Answer.Single (singleOf equation p t verified))
   wet : {a : Wet} → Forward (Answer.Wet a)
   refused : {n : ℕ} → Forward (Answer.Refused n)
 
@@ -24,29 +29,30 @@ either true h k = h
 either false h k = k
 
 placed-pt : (p t : Float) (w : Place) → Forward (placedPT p t w)
-placed-pt p t (Place.Region n) = single
+placed-pt p t (Place.Equation equation) = single
 placed-pt p t (Place.Refused n) = refused
 
 pub forward-pt : (p t : Float) → Forward (answerPT p t)
 unfolding answerPT
 forward-pt p t = placed-pt p t (placePT p t)
 
-placed-py : (given : Given) (p y : Float) (w : Place) → Forward (placedPY given p y w)
+placed-py : (given : Given) (p y : Float) (w : Side) → Forward (placedPY given p y w)
 unfolding markedOf
-placed-py given p y (Place.Region n) = either (eqb n 4) wet single
-placed-py given p y (Place.Refused n) = refused
+placed-py given p y (Side.Phase phase) = single
+placed-py given p y Side.Wet = wet
+placed-py given p y (Side.Refused n) = refused
 
 pub forward-py : (given : Given) (p y : Float) → Forward (answerPY given p y)
 unfolding answerPY
 forward-py given p y = placed-py given p y (placePY given p y)
 
-agreed : (region : ℕ) (p t h s : Float) → Forward (agreedOf region p t h s)
+agreed : (phase : Phase) (p t h s : Float) → Forward (agreedOf phase p t h s)
 unfolding agreedOf
-agreed region p t h s = either (agrees region p t h s) single refused
+agreed phase p t h s = either (agrees phase p t h s) single refused
 
-candidate : (region : ℕ) (h s : Float) → Forward (candidateOf region h s)
+candidate : (phase : Phase) (h s : Float) → Forward (candidateOf phase h s)
 unfolding candidateOf
-candidate region h s = either (le pTriple (pressureOf region h s)) (agreed region _ _ h s) refused
+candidate phase h s = either (le pTriple (pressureOf phase h s)) (agreed phase _ _ h s) refused
 
 first : {a b : Answer} → Forward a → Forward b → Forward (firstOf a b)
 first single k = single
@@ -55,7 +61,7 @@ first refused k = k
 
 pub forward-hs : (h s : Float) → Forward (answerHS h s)
 unfolding answerHS
-forward-hs h s = either (wild h s) refused (first (candidate 1 h s) (candidate 2 h s))
+forward-hs h s = either (wild h s) refused (first (candidate Liquid h s) (candidate Vapour h s))
 
 pub forward : (kind : ℕ) (x y : Float) → Forward (answerOf kind x y)
 unfolding answerOf

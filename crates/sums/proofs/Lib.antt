@@ -1,4 +1,3 @@
 pub mod Only
 pub mod Forward
 pub mod Carried
-pub mod Phases

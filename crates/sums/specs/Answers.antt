@@ -2,10 +2,11 @@
 use Prim.Native.Nat.{ℕ}
 use mathlib.Core.Bool.{Bool, false}
 use mathlib.Core.List.{List, [], _∷_}
+use Rattle.states.specs.Equations as Equations
 use Rattle.sums.specs.declared.Answer.{Answer}
 use Rattle.sums.specs.declared.Answer.the-variants as Answer
-use Rattle.sums.specs.declared.Value.{Value}
-use Rattle.sums.specs.declared.Value.the-variants.{Is, Missing}
+use Rattle.properties.specs.declared.Value.{Value}
+use Rattle.properties.specs.declared.Value.the-variants.{Is, Missing}
 
 -- the refusal, 0 if there is none
 abbrev pub numberOf : Answer → ℕ
@@ -15,7 +16,7 @@ numberOf (Answer.Refused n) = n
 
 -- the region, 0 if refused
 abbrev pub regionOf : Answer → ℕ
-regionOf (Answer.Single a) = a .region
+regionOf (Answer.Single a) = Equations.regionOf (a .equation)
 regionOf (Answer.Wet a) = 4
 regionOf (Answer.Refused n) = 0
 

@@ -1,10 +1,10 @@
 -- What the code carries inside a query: where a state of one phase lies, so that of a state and a derivative only what is asked for is worked there; and from
--- (h,s), which works a state to judge it, that state, with w squared yet and beside it the α and κ that a derivative of it needs, so that nothing is summed twice.
+-- (h,s), which works a state to judge it, that state, with w squared yet and beside it the slopes that a derivative of it takes, so that nothing is summed twice.
 -- No promise of a public call cites this file. Definitions only.
 use Prim.Native.Nat.{ℕ}
 use mathlib.Core.Bool.{true}
 use lib.Ieee.{Float}
-use Rattle.states.specs.States.{responseAt}
+use Rattle.states.specs.States.{slopesAt}
 use Rattle.states.specs.Marks.{singleOf, markedOf, fullOf, handedOut}
 use Rattle.states.specs.declared.Given.{Given}
 use Rattle.slopes.specs.Slopes.{ratioAt}
@@ -20,25 +20,25 @@ use Rattle.sums.specs.declared.outcomes.Outcome.the-variants as Outcome
 -- ---- where a state lies
 
 abbrev pub foundOf : Answer → Found
-foundOf (Answer.Single a) = Found.Single (record { region = a .region; p = a .p; t = a .t })
+foundOf (Answer.Single a) = Found.Single (record { equation = a .equation; p = a .p; t = a .t })
 foundOf (Answer.Wet a) = Found.Wet a
 foundOf (Answer.Refused n) = Found.Refused n
 
 -- the derivative there
 abbrev pub quotientFound : Found → ℕ → ℕ → ℕ → Derivative
-quotientFound (Found.Single a) z x y = ratioAt (singleOf (a .region) (a .p) (a .t) true) (responseAt (a .region) (a .p) (a .t)) z x y
+quotientFound (Found.Single a) z x y = ratioAt (slopesAt (a .equation) (a .p) (a .t)) z x y
 quotientFound (Found.Wet a) z x y = Derivative.Refused 8
 quotientFound (Found.Refused n) z x y = Derivative.Refused n
 
 -- the state there, verified
 abbrev pub verifiedIn : Found → Answer
-verifiedIn (Found.Single a) = Answer.Single (singleOf (a .region) (a .p) (a .t) true)
+verifiedIn (Found.Single a) = Answer.Single (singleOf (a .equation) (a .p) (a .t) true)
 verifiedIn (Found.Wet a) = Answer.Wet a
 verifiedIn (Found.Refused n) = Answer.Refused n
 
 -- the state there, marked by the h or s asked
 abbrev pub markedIn : Given → Float → Found → Answer
-markedIn given y (Found.Single a) = Answer.Single (markedOf given (a .region) (a .p) y (a .t))
+markedIn given y (Found.Single a) = Answer.Single (markedOf given (a .equation) (a .p) y (a .t))
 markedIn given y (Found.Wet a) = Answer.Wet a
 markedIn given y (Found.Refused n) = Answer.Refused n
 
@@ -51,7 +51,7 @@ outcomeOf (Answer.Refused n) = Outcome.Refused n
 
 -- the derivative at an outcome
 abbrev pub quotientCarried : Outcome → ℕ → ℕ → ℕ → Derivative
-quotientCarried (Outcome.Single a) z x y = ratioAt (handedOut a) (a .worked .response) z x y
+quotientCarried (Outcome.Single a) z x y = ratioAt (a .worked .slopes) z x y
 quotientCarried (Outcome.Wet a) z x y = Derivative.Refused 8
 quotientCarried (Outcome.Refused n) z x y = Derivative.Refused n
 

@@ -8,21 +8,26 @@ use Rattle.backward.specs.T1ph.{t1ph}
 use Rattle.backward.specs.T1ps.{t1ps}
 use Rattle.backward.specs.P1hs.{p1hs}
 use Rattle.backward.specs.Region2.{t2ph, t2ps, p2hs}
+use Rattle.states.specs.Equations.{regionOf, equationOf}
 use Rattle.states.specs.States.{stateAt, givenOf}
-use Rattle.states.specs.Marks.{bothNear, hMargin, sMargin, singleOf, markedOf}
+use Rattle.states.specs.Marks.{bothNear, singleOf, markedOf, markedBothOf}
 use Rattle.states.specs.Mixing.{wetOf}
 use Rattle.states.specs.declared.Given.{Given}
 use Rattle.states.specs.declared.Given.the-variants.{Enthalpy, Entropy}
 use Rattle.places.specs.Places.{wild, pTriple, placePT, placePY}
 use Rattle.places.specs.declared.Place.{Place}
 use Rattle.places.specs.declared.Place.the-variants as Place
+use Rattle.places.specs.declared.Side.{Side}
+use Rattle.places.specs.declared.Side.the-variants as Side
+use Rattle.states.specs.declared.Phase.{Phase}
+use Rattle.states.specs.declared.Phase.the-variants.{Liquid, Vapour}
 use Rattle.sums.specs.declared.Answer.{Answer}
 use Rattle.sums.specs.declared.Answer.the-variants.{Single, Wet, Refused}
 
 -- ---- (p,T): nothing was asked back, so the state is verified
 
 abbrev pub placedPT : Float → Float → Place → Answer
-placedPT p t (Place.Region n) = Single (singleOf n p t true)
+placedPT p t (Place.Equation equation) = Single (singleOf equation p t true)
 placedPT p t (Place.Refused n) = Refused n
 
 unfoldable pub answerPT : Float → Float → Answer
@@ -30,13 +35,14 @@ answerPT p t = placedPT p t (placePT p t)
 
 -- ---- (p,h) and (p,s): in regions 1 and 2 T is the backward equation's, with no second look at the (p,T) table
 
-unfoldable pub temperatureOf : Given → ℕ → Float → Float → Float
-temperatureOf given region p y = cond (eqb region 1) (givenOf given (t1ph p y) (t1ps p y)) (givenOf given (t2ph p y) (t2ps p y))
+unfoldable pub temperatureOf : Given → Phase → Float → Float → Float
+temperatureOf given Liquid p y = givenOf given (t1ph p y) (t1ps p y)
+temperatureOf given Vapour p y = givenOf given (t2ph p y) (t2ps p y)
 
-abbrev pub placedPY : Given → Float → Float → Place → Answer
-placedPY given p y (Place.Region n) =
-    cond (eqb n 4) (Wet (wetOf given p y)) (Single (markedOf given n p y (temperatureOf given n p y)))
-placedPY given p y (Place.Refused n) = Refused n
+abbrev pub placedPY : Given → Float → Float → Side → Answer
+placedPY given p y (Side.Phase phase) = Single (markedOf given (equationOf phase) p y (temperatureOf given phase p y))
+placedPY given p y Side.Wet = Wet (wetOf given p y)
+placedPY given p y (Side.Refused n) = Refused n
 
 unfoldable pub answerPY : Given → Float → Float → Answer
 answerPY given p y = placedPY given p y (placePY given p y)
@@ -44,30 +50,30 @@ answerPY given p y = placedPY given p y (placePY given p y)
 -- ---- (h,s): the first of two candidates, region 1 before region 2, that passes
 
 -- p by p(h,s)
-unfoldable pub pressureOf : ℕ → Float → Float → Float
-pressureOf region h s = cond (eqb region 1) (p1hs h s) (p2hs h s)
+unfoldable pub pressureOf : Phase → Float → Float → Float
+pressureOf Liquid h s = p1hs h s
+pressureOf Vapour h s = p2hs h s
 
--- the (p,T) table gives that region without refusal
-abbrev pub isIn : ℕ → Place → Bool
-isIn region (Place.Region n) = eqb n region
-isIn region (Place.Refused n) = false
+-- the (p,T) table gives that phase's region without refusal
+abbrev pub isIn : Phase → Place → Bool
+isIn phase (Place.Equation equation) = eqb (regionOf equation) (regionOf (equationOf phase))
+isIn phase (Place.Refused n) = false
 
 -- the table agrees, and forward h and s are within 0.2 and 0.0005 of those asked
-unfoldable pub agrees : ℕ → Float → Float → Float → Float → Bool
-agrees region p t h s =
-    isIn region (placePT p t) && bothNear (printed false 2 (less 1)) (printed false 5 (less 4)) (stateAt region p t) h s
+unfoldable pub agrees : Phase → Float → Float → Float → Float → Bool
+agrees phase p t h s =
+    isIn phase (placePT p t) && bothNear (printed false 2 (less 1)) (printed false 5 (less 4)) (stateAt (equationOf phase) p t) h s
 
 -- the state at p and T, verified by both h and s; refused by 7 where it does not agree
-unfoldable pub agreedOf : ℕ → Float → Float → Float → Float → Answer
-agreedOf region p t h s =
-    cond (agrees region p t h s) (Single (singleOf region p t (bothNear hMargin sMargin (stateAt region p t) h s))) (Refused 7)
+unfoldable pub agreedOf : Phase → Float → Float → Float → Float → Answer
+agreedOf phase p t h s = cond (agrees phase p t h s) (Single (markedBothOf (equationOf phase) p t h s)) (Refused 7)
 
--- the candidate of a region: p is not below 0.000611213, and T is that of T(p,h), whose subregion of 2 is chosen anew by p and h
-unfoldable pub candidateOf : ℕ → Float → Float → Answer
-candidateOf region h s =
-    let p = pressureOf region h s in
-    let t = temperatureOf Enthalpy region p h in
-    cond (le pTriple p) (agreedOf region p t h s) (Refused 7)
+-- the candidate of a phase: p is not below 0.000611213, and T is that of T(p,h), whose subregion of 2 is chosen anew by p and h
+unfoldable pub candidateOf : Phase → Float → Float → Answer
+candidateOf phase h s =
+    let p = pressureOf phase h s in
+    let t = temperatureOf Enthalpy phase p h in
+    cond (le pTriple p) (agreedOf phase p t h s) (Refused 7)
 
 -- the first of two answers, unless it is refused
 abbrev pub firstOf : Answer → Answer → Answer
@@ -76,7 +82,7 @@ firstOf (Wet a) other = Wet a
 firstOf (Refused n) other = other
 
 unfoldable pub answerHS : Float → Float → Answer
-answerHS h s = cond (wild h s) (Refused 1) (firstOf (candidateOf 1 h s) (candidateOf 2 h s))
+answerHS h s = cond (wild h s) (Refused 1) (firstOf (candidateOf Liquid h s) (candidateOf Vapour h s))
 
 -- ---- by number: kinds 1 to 4 are (p,T), (p,h), (p,s), (h,s)
 

@@ -2,7 +2,7 @@
 use Prim.Native.Nat.{ℕ}
 use mathlib.Core.Bool.{cond}
 use lib.Ieee.{Float}
-use Rattle.states.specs.States.{responseAt}
+use Rattle.states.specs.States.{slopesAt}
 use Rattle.slopes.specs.Slopes.{ratioAt, allKnown}
 use Rattle.slopes.specs.declared.Derivative.{Derivative}
 use Rattle.slopes.specs.declared.Derivative.the-variants.{Refused}
@@ -12,7 +12,7 @@ use Rattle.sums.specs.declared.Answer.the-variants as Answer
 
 -- of a state of one phase alone
 abbrev pub quotientAt : Answer → ℕ → ℕ → ℕ → Derivative
-quotientAt (Answer.Single a) z x y = ratioAt a (responseAt (a .region) (a .p) (a .t)) z x y
+quotientAt (Answer.Single a) z x y = ratioAt (slopesAt (a .equation) (a .p) (a .t)) z x y
 quotientAt (Answer.Wet a) z x y = Refused 8
 quotientAt (Answer.Refused n) z x y = Refused n
 

@@ -1,7 +1,8 @@
 // What an answer says in the paper's words: its number, region, mark and values
 // (specs/Answers.antt).
 use crate::Answer;
-use crate::Value;
+use properties::Value;
+use states::region_of;
 ghost use mathlib.Core.Path.{_≡_};
 ghost use Rattle.sums.specs.Answers.{numberOf, regionOf, markOf, valuesOf};
 
@@ -21,7 +22,10 @@ pub fn region(a: Answer) -> u64
     ensures { λ r. ⌜ r ≡ regionOf a ⌝ }
 {
     match a {
-        Answer::Single(s) => s.region,
+        Answer::Single(s) => {
+            let equation = s.equation;
+            region_of(equation)
+        }
         Answer::Wet(_) => 4,
         Answer::Refused(_) => 0,
     }

@@ -4,7 +4,7 @@ use crate::outcomes::Outcome;
 use crate::outcomes::of_hs;
 use crate::outcomes::of_kind;
 use slopes::Derivative;
-use states::Full;
+use states::slopes_at;
 ghost use mathlib.Core.Path.{_≡_};
 ghost use mathlib.Core.Bool.{true};
 ghost use Rattle.slopes.specs.Slopes.{allKnown};
@@ -17,7 +17,7 @@ fn of_outcome(o: Outcome, z: u64, x: u64, y: u64) -> Derivative
     ensures { λ r. ⌜ r ≡ quotientCarried o z x y ⌝ }
 {
     match o {
-        Outcome::Single(a) => slopes::quotient(a, z, x, y),
+        Outcome::Single(a) => slopes::quotient(a.worked.slopes, z, x, y),
         Outcome::Wet(_) => Derivative::Refused(8),
         Outcome::Refused(n) => Derivative::Refused(n),
     }
@@ -30,15 +30,8 @@ fn of_found(f: Found, z: u64, x: u64, y: u64) -> Derivative
 {
     match f {
         Found::Single(a) => {
-            let worked = states::worked_apart(a.region, a.p, a.t);
-            let full = Full {
-                region: a.region,
-                p: a.p,
-                t: a.t,
-                worked,
-                verified: true,
-            };
-            slopes::quotient(full, z, x, y)
+            let equation = a.equation;
+            slopes::quotient(slopes_at(equation, a.p, a.t), z, x, y)
         }
         Found::Wet(_) => Derivative::Refused(8),
         Found::Refused(n) => Derivative::Refused(n),

@@ -27,9 +27,3 @@ pub enum Answer {
     Wet(Wet),
     Refused(u64),
 }
-
-// A value that an answer may lack.
-pub enum Value {
-    Is(f64),
-    Missing,
-}

@@ -4,15 +4,19 @@
 use crate::Answer;
 use crate::candidates::candidate;
 use places::Place;
+use places::Side;
 use places::place_pt;
 use places::place_py;
 use places::wild;
+use states::Equation;
 use states::Full;
 use states::Given;
+use states::Phase;
 use states::Wet;
-use states::full_at;
+use states::equation_of;
 use states::handed_out;
 use states::marked;
+use states::state_at;
 use states::wet_at;
 ghost use mathlib.Core.Path.{_≡_};
 ghost use mathlib.Core.Logic.{_≢_};
@@ -21,7 +25,7 @@ ghost use Rattle.sums.specs.Outcomes.{outcomeOf, shownOf, foundOf, verif
 
 // Where a state of one phase lies.
 pub struct Spot {
-    pub region: u64,
+    pub equation: Equation,
     pub p: f64,
     pub t: f64,
 }
@@ -54,7 +58,10 @@ pub(crate) fn verified_in(f: Found) -> Answer
     ensures { λ r. ⌜ r ≡ verifiedIn f ⌝ }
 {
     match f {
-        Found::Single(a) => Answer::Single(handed_out(full_at(a.region, a.p, a.t))),
+        Found::Single(a) => {
+            let equation = a.equation;
+            Answer::Single(state_at(equation, a.p, a.t))
+        }
         Found::Wet(a) => Answer::Wet(a),
         Found::Refused(n) => Answer::Refused(n),
     }
@@ -65,7 +72,10 @@ pub(crate) fn marked_in(given: Given, y: f64, f: Found) -> Answer
     ensures { λ r. ⌜ r ≡ markedIn given y f ⌝ }
 {
     match f {
-        Found::Single(a) => Answer::Single(marked(given, a.region, a.p, y, a.t)),
+        Found::Single(a) => {
+            let equation = a.equation;
+            Answer::Single(marked(given, equation, a.p, y, a.t))
+        }
         Found::Wet(a) => Answer::Wet(a),
         Found::Refused(n) => Answer::Refused(n),
     }
@@ -76,24 +86,24 @@ pub(crate) fn of_pt(p: f64, t: f64) -> Found
     ensures { λ r. ⌜ r ≡ foundOf (answerPT p t) ⌝ }
 {
     match place_pt(p, t) {
-        Place::Region(region) => Found::Single(Spot { region, p, t }),
+        Place::Equation(equation) => Found::Single(Spot { equation, p, t }),
         Place::Refused(n) => Found::Refused(n),
     }
 }
 
-// T in K by the backward equation of region 1 or 2 for p in MPa and an h in kJ/kg or s in kJ/(kg K).
-pub(crate) fn temperature(given: Given, region: u64, p: f64, y: f64) -> f64
-    ensures { λ r. ⌜ r ≡ temperatureOf given region p y ⌝ }
+// T in K by the backward equation of a phase for p in MPa and an h in kJ/kg or s in kJ/(kg K).
+pub(crate) fn temperature(given: Given, phase: Phase, p: f64, y: f64) -> f64
+    ensures { λ r. ⌜ r ≡ temperatureOf given phase p y ⌝ }
 {
-    if region == 1 {
-        return match given {
+    match phase {
+        Phase::Liquid => match given {
             Given::Enthalpy => backward::t1_ph(p, y),
             Given::Entropy => backward::t1_ps(p, y),
-        };
-    }
-    match given {
-        Given::Enthalpy => backward::t2_ph(p, y),
-        Given::Entropy => backward::t2_ps(p, y),
+        },
+        Phase::Vapour => match given {
+            Given::Enthalpy => backward::t2_ph(p, y),
+            Given::Entropy => backward::t2_ps(p, y),
+        },
     }
 }
 
@@ -102,14 +112,13 @@ pub(crate) fn of_py(given: Given, p: f64, y: f64) -> Found
     ensures { λ r. ⌜ r ≡ foundOf (answerPY given p y) ⌝ }
 {
     match place_py(given, p, y) {
-        Place::Region(region) => {
-            if region == 4 {
-                return Found::Wet(wet_at(given, p, y));
-            }
-            let t = temperature(given, region, p, y);
-            Found::Single(Spot { region, p, t })
+        Side::Phase(phase) => {
+            let equation = equation_of(phase);
+            let t = temperature(given, phase, p, y);
+            Found::Single(Spot { equation, p, t })
         }
-        Place::Refused(n) => Found::Refused(n),
+        Side::Wet => Found::Wet(wet_at(given, p, y)),
+        Side::Refused(n) => Found::Refused(n),
     }
 }
 
@@ -120,9 +129,9 @@ pub(crate) fn of_hs(h: f64, s: f64) -> Outcome
     if wild(h, s) {
         return Outcome::Refused(1);
     }
-    let liquid = candidate(1, h, s);
+    let liquid = candidate(Phase::Liquid, h, s);
     match liquid {
-        Outcome::Refused(_) => candidate(2, h, s),
+        Outcome::Refused(_) => candidate(Phase::Vapour, h, s),
         _ => liquid,
     }
 }

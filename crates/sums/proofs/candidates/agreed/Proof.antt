@@ -16,8 +16,8 @@ place-pt-requires c κs = search needs
 is-in-requires : tie.Need-is-in-requires
 is-in-requires c κs = search needs
 
-full-marked-both-requires : tie.Need-full-marked-both-requires
-full-marked-both-requires c κs = search needs
+carried-requires : tie.Need-carried-requires
+carried-requires c κs = search needs
 
 both-near-requires : tie.Need-both-near-requires
 both-near-requires c κs = search needs
@@ -25,7 +25,7 @@ both-near-requires c κs = search needs
 returns : tie.Need-returns
 unfolding agrees agreedOf stateAt workedAt printed round ofBits
 returns c =
-    let state = ap (λ (a : Full). rootedOf (a .worked .unrooted)) (c .before .before .before .full-marked-both .ensures) in
+    let state = ap (λ (a : Full). rootedOf (a .worked .unrooted)) (c .before .before .before .carried .ensures) in
     let full = c .before .before .before in
     let place = full .before in
     rw (
@@ -35,13 +35,13 @@ returns c =
       ← state,
       ← c .before .both-near .ensures,
       c .if2 .taken,
-      full .full-marked-both .ensures,
+      full .carried .ensures,
     )
 
 returns-2 : tie.Need-returns-2
 unfolding agrees agreedOf stateAt workedAt printed round ofBits
 returns-2 c =
-    let state = ap (λ (a : Full). rootedOf (a .worked .unrooted)) (c .before .before .before .full-marked-both .ensures) in
+    let state = ap (λ (a : Full). rootedOf (a .worked .unrooted)) (c .before .before .before .carried .ensures) in
     let full = c .before .before .before in
     let place = full .before in
     rw (
@@ -63,7 +63,7 @@ agreed-spec =
     (tie.spec
     place-pt-requires
     is-in-requires
-    full-marked-both-requires
+    carried-requires
     both-near-requires
     returns
     returns-2

@@ -1,6 +1,5 @@
--- `sums::derived::of_found` meets its contract: by cases; the numbers were judged before, and the mark has no part in a quotient. Assumes nothing.
+-- `sums::derived::of_found` meets its contract: by cases; the numbers were judged before. Assumes nothing.
 use borrow.Author.Needs.{needs}
-use Rattle.states.specs.States.{stateAt, workedAt}
 use Rattle.slopes.specs.Slopes.{derivativeAt}
 use Rattle.sums.proofs.derived.of_found.Statement.{statement}
 use Rattle.sums.proofs.derived.of_found.Tie as tie
@@ -8,8 +7,8 @@ use Rattle.sums.proofs.derived.of_found.Tie as tie
 enum-known-f : tie.Need-enum-known-f
 enum-known-f c = search needs
 
-worked-apart-requires : tie.Need-worked-apart-requires
-worked-apart-requires c κs = search needs
+slopes-at-requires : tie.Need-slopes-at-requires
+slopes-at-requires c κs = search needs
 
 quotient-requires : tie.Need-quotient-requires
 quotient-requires c κs = search needs
@@ -21,11 +20,11 @@ enum-known-f-2 : tie.Need-enum-known-f-2
 enum-known-f-2 c = search needs
 
 returns : tie.Need-returns
-unfolding derivativeAt stateAt workedAt
+unfolding derivativeAt
 returns c =
     rw (
       c .quotient .ensures,
-      c .before .worked-apart .ensures,
+      c .before .slopes-at .ensures,
       c .before .before .before .f .given .1,
       c .before .before .before .before .before .pre,
     )
@@ -41,7 +40,7 @@ of-found-spec =
     tie.close
     (tie.spec
     enum-known-f
-    worked-apart-requires
+    slopes-at-requires
     quotient-requires
     enum-told
     enum-known-f-2

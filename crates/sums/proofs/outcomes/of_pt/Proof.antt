@@ -9,7 +9,7 @@ place-pt-requires c κs = search needs
 
 returns : tie.Need-returns
 unfolding answerPT
-returns c = rw (← c .before .before .before .place-pt .ensures, c .before .region .given .1)
+returns c = rw (← c .before .before .before .place-pt .ensures, c .before .equation .given .1)
 
 returns-2 : tie.Need-returns-2
 unfolding answerPT

@@ -1,48 +1,40 @@
 -- `sums::outcomes::of_py` meets its contract: the place is that of p and the h or s; a wet state is mixed there, and T is that of a state of one phase. Assumes nothing.
+use mathlib.Core.Path.{refl}
 use borrow.Author.Needs.{needs}
-use borrow.Author.Tests.{ne-eqb}
 use Rattle.states.specs.Marks.{markedOf}
 use Rattle.sums.specs.Queries.{answerPY}
 use Rattle.sums.proofs.outcomes.of_py.Statement.{statement}
 use Rattle.sums.proofs.outcomes.of_py.Tie as tie
 
-place-py-requires : tie.Need-place-py-requires
-place-py-requires c κs = search needs
-
-enum-known-region : tie.Need-enum-known-region
-enum-known-region c = search needs
-
-wet-at-requires : tie.Need-wet-at-requires
-wet-at-requires c κs = search needs
-
 returns : tie.Need-returns
-unfolding answerPY
+unfolding answerPY markedOf
 returns c =
-    rw (
-      c .wet-at .ensures,
-      ← c .before .before .before .before .before .place-py .ensures,
-      c .before .before .before .region .given .1,
-      c .before .if1 .taken,
-    )
-
-temperature-requires : tie.Need-temperature-requires
-temperature-requires c κs = search needs
+    let place = c .before .before .before in
+    rw (c .temperature .ensures, c .before .equation-of .ensures, ← place .before .before .place-py .ensures, place .phase .given .1) refl
 
 returns-2 : tie.Need-returns-2
-unfolding answerPY markedOf
+unfolding answerPY
 returns-2 c =
-    rw (
-      c .temperature .ensures,
-      ← c .before .before .before .before .before .place-py .ensures,
-      c .before .before .before .region .given .1,
-      ne-eqb _ _ (c .before .if1 .left),
-    )
+    let place = c .before in
+    rw (c .wet-at .ensures, ← place .before .before .place-py .ensures, place .enum-told .given .1) refl
 
 returns-3 : tie.Need-returns-3
 unfolding answerPY
-returns-3 c = rw (← c .before .before .before .place-py .ensures, c .before .n .given .1)
+returns-3 c =
+    let place = c .before in
+    rw (← place .before .before .place-py .ensures, place .n .given .1) refl
 
 pub of-py-spec : {M : Type 1} → statement M
 of-py-spec =
     tie.close
-    (tie.spec place-py-requires enum-known-region wet-at-requires returns temperature-requires (λ c. search needs) returns-2 returns-3)
+    (tie.spec
+    (λ c κs. search needs)
+    (λ c. search needs)
+    (λ c κs. search needs)
+    (λ c κs. search needs)
+    (λ c. search needs)
+    (λ c κs. search needs)
+    (λ c. search needs)
+    returns
+    returns-2
+    returns-3)
