@@ -1,17 +1,19 @@
 -- What the settling layer publishes: a post judged, one halving, the state at the end. Definitions only.
 use Prim.Native.Nat.{ℕ}
-use mathlib.Core.Bool.{Bool, false, cond, _||_}
+use mathlib.Core.Bool.{Bool, cond, _||_}
 use lib.Dec.{eqb}
 use lib.Ieee.{Float, lt}
 use Rattle.arith.specs.F64.{f64, _⊕_, _⊘_}
+use Rattle.states.specs.Equations.{equationOf}
 use Rattle.states.specs.States.{propertyAt}
-use Rattle.places.specs.Places.{t273, t1073, liquidEnd, vapourStart}
 use Rattle.states.specs.Marks.{markedOf}
-use Rattle.sums.specs.Queries.{answerOf}
+use Rattle.places.specs.Places.{t273, t1073, placePY, liquidEnd, vapourStart}
+use Rattle.places.specs.declared.Side.{Side}
+use Rattle.places.specs.declared.Side.the-variants as Side
 use Rattle.states.specs.declared.Given.{Given}
 use Rattle.states.specs.declared.Given.the-variants.{Enthalpy, Entropy}
-use Rattle.sums.specs.declared.Answer.{Answer}
-use Rattle.sums.specs.declared.Answer.the-variants as Answer
+use Rattle.states.specs.declared.Phase.{Phase}
+use Rattle.states.specs.declared.Phase.the-variants.{Liquid, Vapour}
 use Rattle.settle.specs.declared.Bracket.{Bracket}
 use Rattle.settle.specs.declared.Settled.{Settled}
 use Rattle.settle.specs.declared.Judged.{Judged}
@@ -29,24 +31,25 @@ abbrev pub middleOf : Float → Float → Float
 middleOf lo hi = (lo ⊕ hi) ⊘ f64 2
 
 -- Region 1 from 273.15 to Ts(p) if p ≤ P, else to 623.15; region 2 from Ts(p) if p ≤ P, else TB23(p), to 1073.15.
-unfoldable pub bracketOf : ℕ → Float → Bracket
-bracketOf region p = cond (eqb region 1) (record { lo = t273; hi = liquidEnd p }) (record { lo = vapourStart p; hi = t1073 })
+unfoldable pub bracketOf : Phase → Float → Bracket
+bracketOf Liquid p = record { lo = t273; hi = liquidEnd p }
+bracketOf Vapour p = record { lo = vapourStart p; hi = t1073 }
 
--- A query is judged as everywhere; a wet one is refused by 8, since one phase is needed.
-abbrev pub judgedBy : Float → Answer → Judged
-judgedBy p (Answer.Single a) = Within (a .region) (bracketOf (a .region) p .lo) (bracketOf (a .region) p .hi)
-judgedBy p (Answer.Wet a) = Refused 8
-judgedBy p (Answer.Refused n) = Refused n
+-- A query is placed as everywhere; a wet one is refused by 8, since one phase is needed.
+abbrev pub judgedBy : Float → Side → Judged
+judgedBy p (Side.Phase phase) = Within phase (bracketOf phase p .lo) (bracketOf phase p .hi)
+judgedBy p Side.Wet = Refused 8
+judgedBy p (Side.Refused n) = Refused n
 
 unfoldable pub judgedOf : ℕ → Float → Float → Judged
-judgedOf kind p y = cond (postedOf kind) (judgedBy p (answerOf kind p y)) (Refused 9)
+judgedOf kind p y = cond (postedOf kind) (judgedBy p (placePY (givenOf kind) p y)) (Refused 9)
 
 -- mid = (lo + hi) / 2; if y(p,mid) < y asked, lo = mid, else hi = mid
-unfoldable pub halvedOf : ℕ → ℕ → Float → Float → Float → Float → Bracket
-halvedOf kind region p y lo hi =
+unfoldable pub halvedOf : ℕ → Phase → Float → Float → Float → Float → Bracket
+halvedOf kind phase p y lo hi =
     let mid = middleOf lo hi in
-    cond (lt (propertyAt (givenOf kind) region p mid) y) (record { lo = mid; hi = hi }) (record { lo = lo; hi = mid })
+    cond (lt (propertyAt (givenOf kind) phase p mid) y) (record { lo = mid; hi = hi }) (record { lo = lo; hi = mid })
 
 -- T = (lo + hi) / 2, with its state and mark
-unfoldable pub settledOf : ℕ → ℕ → Float → Float → Float → Float → Settled
-settledOf kind region p y lo hi = record { single = markedOf (givenOf kind) region p y (middleOf lo hi) }
+unfoldable pub settledOf : ℕ → Phase → Float → Float → Float → Float → Settled
+settledOf kind phase p y lo hi = record { single = markedOf (givenOf kind) (equationOf phase) p y (middleOf lo hi) }

@@ -1,9 +1,16 @@
 // The settling layer: what the desk may know of steam. A query of (p,h) or (p,s) is judged at its
 // post, its temperature bracket is halved one step a turn, and at the end its state is worked at the
 // middle of the bracket. What each call answers is said in specs/Settle.antt.
+mod naming;
+
+pub use naming::phase;
+pub use naming::region;
+use places::Side;
+use places::place_py;
 use states::Given;
+use states::Phase;
 use states::Single;
-use sums::Answer;
+use states::equation_of;
 ghost use mathlib.Core.Path.{_≡_};
 ghost use Rattle.settle.specs.Settle.{postedOf, givenOf, middleOf, bracketOf, judgedOf, halvedOf, settledOf};
 
@@ -13,10 +20,10 @@ pub struct Bracket {
     pub hi: f64,
 }
 
-// What judging a post finds: the refusal's number, or the region and the bracket to halve.
+// What judging a post finds: the refusal's number, or the phase and the bracket to halve.
 pub enum Judged {
     Refused(u64),
-    Within { region: u64, lo: f64, hi: f64 },
+    Within { phase: Phase, lo: f64, hi: f64 },
 }
 
 // What a collect hands out: the state of one phase that the halvings settled, with its mark.
@@ -49,20 +56,19 @@ fn middle(lo: f64, hi: f64) -> f64
     (lo + hi) / 2.0
 }
 
-// The bracket of region 1 or 2 at p: from 273.15 K, or up to 1073.15 K.
-fn first_bracket(region: u64, p: f64) -> Bracket
-    ensures { λ r. ⌜ r ≡ bracketOf region p ⌝ }
+// The bracket of a phase at p: liquid from 273.15 K, vapour up to 1073.15 K.
+fn first_bracket(phase: Phase, p: f64) -> Bracket
+    ensures { λ r. ⌜ r ≡ bracketOf phase p ⌝ }
 {
-    if region == 1 {
-        Bracket {
+    match phase {
+        Phase::Liquid => Bracket {
             lo: 273.15,
             hi: places::liquid_end(p),
-        }
-    } else {
-        Bracket {
+        },
+        Phase::Vapour => Bracket {
             lo: places::vapour_start(p),
             hi: 1073.15,
-        }
+        },
     }
 }
 
@@ -73,29 +79,27 @@ pub fn judge(kind: u64, p: f64, y: f64) -> Judged
     if !posted(kind) {
         return Judged::Refused(9);
     }
-    let answer = sums::query(kind, p, y);
-    match answer {
-        Answer::Single(a) => {
-            let region = a.region;
-            let b = first_bracket(region, p);
+    match place_py(given(kind), p, y) {
+        Side::Phase(phase) => {
+            let b = first_bracket(phase, p);
             Judged::Within {
-                region,
+                phase,
                 lo: b.lo,
                 hi: b.hi,
             }
         }
-        Answer::Wet(_) => Judged::Refused(8),
-        Answer::Refused(n) => Judged::Refused(n),
+        Side::Wet => Judged::Refused(8),
+        Side::Refused(n) => Judged::Refused(n),
     }
 }
 
 // One halving: the middle becomes the lower end where the property there is below the one asked, and
 // the upper end otherwise. Only that one property is worked.
-pub fn halve(kind: u64, region: u64, p: f64, y: f64, lo: f64, hi: f64) -> Bracket
-    ensures { λ r. ⌜ r ≡ halvedOf kind region p y lo hi ⌝ }
+pub fn halve(kind: u64, phase: Phase, p: f64, y: f64, lo: f64, hi: f64) -> Bracket
+    ensures { λ r. ⌜ r ≡ halvedOf kind phase p y lo hi ⌝ }
 {
     let mid = middle(lo, hi);
-    if states::property(given(kind), region, p, mid) < y {
+    if states::property(given(kind), phase, p, mid) < y {
         Bracket { lo: mid, hi }
     } else {
         Bracket { lo, hi: mid }
@@ -103,9 +107,9 @@ pub fn halve(kind: u64, region: u64, p: f64, y: f64, lo: f64, hi: f64) -> Bracke
 }
 
 // The state at the middle of the bracket, with its mark.
-pub fn settled_at(kind: u64, region: u64, p: f64, y: f64, lo: f64, hi: f64) -> Settled
-    ensures { λ r. ⌜ r ≡ settledOf kind region p y lo hi ⌝ }
+pub fn settled_at(kind: u64, phase: Phase, p: f64, y: f64, lo: f64, hi: f64) -> Settled
+    ensures { λ r. ⌜ r ≡ settledOf kind phase p y lo hi ⌝ }
 {
-    let single = states::marked(given(kind), region, p, y, middle(lo, hi));
+    let single = states::marked(given(kind), equation_of(phase), p, y, middle(lo, hi));
     Settled { single }
 }

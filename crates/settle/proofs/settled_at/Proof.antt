@@ -5,18 +5,12 @@ use Rattle.settle.specs.Settle.{settledOf}
 use Rattle.settle.proofs.settled_at.Statement.{statement}
 use Rattle.settle.proofs.settled_at.Tie as tie
 
-given-requires : tie.Need-given-requires
-given-requires c κs = search needs
-
-middle-requires : tie.Need-middle-requires
-middle-requires c κs = search needs
-
-marked-requires : tie.Need-marked-requires
-marked-requires c κs = search needs
-
 returns : tie.Need-returns
 unfolding settledOf
-returns c = rw (c .marked .ensures, c .before .middle .ensures, c .before .before .given .ensures) refl
+returns c =
+    let equation = c .before .before in
+    rw (c .marked .ensures, c .before .middle .ensures, equation .equation-of .ensures, equation .before .given .ensures) refl
 
 pub settled-at-spec : {M : Type 1} → statement M
-settled-at-spec = tie.close (tie.spec given-requires middle-requires marked-requires returns)
+settled-at-spec =
+    tie.close (tie.spec (λ c κs. search needs) (λ c κs. search needs) (λ c κs. search needs) (λ c κs. search needs) returns)
