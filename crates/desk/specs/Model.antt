@@ -12,7 +12,9 @@ use Rattle.settle.specs.declared.Bracket.{Bracket}
 use Rattle.settle.specs.declared.Judged.{Judged}
 use Rattle.settle.specs.declared.Judged.the-variants as Judged
 use Rattle.settle.specs.declared.Settled.{Settled}
+use Rattle.settle.specs.Phases.{regionOf, phaseOf}
 use Rattle.settle.specs.Settle.{judgedOf, halvedOf, settledOf}
+use Rattle.states.specs.declared.Phase.{Phase}
 use Rattle.desk.specs.declared.Answer.{Answer}
 use Rattle.desk.specs.declared.Answer.the-variants as Answer
 use Rattle.desk.specs.declared.Outcome.{Outcome}
@@ -45,25 +47,25 @@ numberOf Answer.Freed = 0
 
 -- ---- queries and their brackets
 
--- what was asked, with the region fixed at the post
+-- what was asked, with the phase fixed at the post
 pub record Query : Type 0 where
   pub kind : ℕ
-  pub region : ℕ
+  pub phase : Phase
   pub p : Float
   pub y : Float
 
 abbrev pub queryOf : Row → Query
-queryOf r = record { kind = r .kind; region = r .region; p = r .p; y = r .y }
+queryOf r = record { kind = r .kind; phase = phaseOf (r .region); p = r .p; y = r .y }
 
 abbrev pub bracketOf : Row → Bracket
 bracketOf r = record { lo = r .lo; hi = r .hi }
 
 -- one halving of a query's bracket, and the state at the end
 abbrev pub halve : Query → Bracket → Bracket
-halve q b = halvedOf (q .kind) (q .region) (q .p) (q .y) (b .lo) (b .hi)
+halve q b = halvedOf (q .kind) (q .phase) (q .p) (q .y) (b .lo) (b .hi)
 
 abbrev pub settle : Query → Bracket → Settled
-settle q b = settledOf (q .kind) (q .region) (q .p) (q .y) (b .lo) (b .hi)
+settle q b = settledOf (q .kind) (q .phase) (q .p) (q .y) (b .lo) (b .hi)
 
 -- ---- post
 
@@ -75,7 +77,7 @@ fresh c t q b =
       caller = c;
       ticket = t;
       kind = q .kind;
-      region = q .region;
+      region = regionOf (q .phase);
       p = q .p;
       y = q .y;
       halvings = 0;
@@ -96,8 +98,8 @@ admitted d r =
 -- the ticket is the caller's own count
 unfoldable pub judgedPost : Desk → ℕ → ℕ → Float → Float → Judged → Outcome
 judgedPost d c kind p y (Judged.Refused n) = refuse n d
-judgedPost d c kind p y (Judged.Within region lo hi) =
-    admitted d (fresh c (counted d c) (record { kind = kind; region = region; p = p; y = y }) (record { lo = lo; hi = hi }))
+judgedPost d c kind p y (Judged.Within phase lo hi) =
+    admitted d (fresh c (counted d c) (record { kind = kind; phase = phase; p = p; y = y }) (record { lo = lo; hi = hi }))
 
 unfoldable pub postOf : Desk → ℕ → ℕ → Float → Float → Outcome
 postOf d c kind p y =

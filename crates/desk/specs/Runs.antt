@@ -6,6 +6,7 @@ use mathlib.Core.List.{List, [], _∷_, _++_}
 use Prim.Native.Nat.{ℕ, zero, suc, _+_, _%_, _≤_, _<_}
 use lib.Dec.{eqb, ltb}
 use lib.Ieee.{Float}
+use Rattle.states.specs.declared.Phase.{Phase}
 use Rattle.settle.specs.declared.Bracket.{Bracket}
 use Rattle.settle.specs.declared.Judged.the-variants.{Within}
 use Rattle.settle.specs.declared.Settled.{Settled}
@@ -125,21 +126,21 @@ unfoldable pub times : {A : Type 0} → (A → A) → ℕ → A → A
 times f zero x = x
 times f (suc n) x = f (times f n x)
 
-abbrev pub asked : ℕ → ℕ → Float → Float → Query
-asked kind region p y = record { kind = kind; region = region; p = p; y = y }
+abbrev pub asked : ℕ → Phase → Float → Float → Query
+asked kind phase p y = record { kind = kind; phase = phase; p = p; y = y }
 
 -- b is the bracket that n halvings give of the query's own, which judging it gave
 pub record HalvedTo (kind : ℕ) (p y : Float) (n : ℕ) (b : Bracket) : Type 0 where
-  pub region : ℕ
+  pub phase : Phase
   pub first : Bracket
-  pub judgedTo : judgedOf kind p y ≡ Within region (first .lo) (first .hi)
-  pub halvings : b ≡ times (halve (asked kind region p y)) n first
+  pub judgedTo : judgedOf kind p y ≡ Within phase (first .lo) (first .hi)
+  pub halvings : b ≡ times (halve (asked kind phase p y)) n first
 
 -- s is the state of 40 halvings of the query's own bracket
 pub record SettledTo (kind : ℕ) (p y : Float) (s : Settled) : Type 0 where
   pub bracket : Bracket
   pub halved : HalvedTo kind p y due bracket
-  pub settles : s ≡ settle (asked kind (halved .region) p y) bracket
+  pub settles : s ≡ settle (asked kind (halved .phase) p y) bracket
 
 -- the post that gave caller c ticket t in a run
 pub record Origin (c t : ℕ) (run : List Call) : Type 0 where

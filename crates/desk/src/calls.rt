@@ -92,14 +92,14 @@ pub fn post(d: Desk, caller: u64, kind: u64, p: f64, y: f64) -> Outcome
     let j = settle::judge(kind, p, y);
     match j {
         Judged::Refused(n) => refused(d, n),
-        Judged::Within { region, lo, hi } => {
+        Judged::Within { phase, lo, hi } => {
             let ticket = d.counts[caller as usize];
             let r = Row {
                 filled: true,
                 caller: caller,
                 ticket: ticket,
                 kind: kind,
-                region: region,
+                region: settle::region(phase),
                 p: p,
                 y: y,
                 halvings: 0,
@@ -116,7 +116,7 @@ fn halved(r: Row) -> Row
     requires { ⌜ r .halvings < due ⌝ }
     ensures { λ s. ⌜ s ≡ halvedRow r ⌝ }
 {
-    let b = settle::halve(r.kind, r.region, r.p, r.y, r.lo, r.hi);
+    let b = settle::halve(r.kind, settle::phase(r.region), r.p, r.y, r.lo, r.hi);
     let mut s = r;
     s.halvings = r.halvings + 1;
     s.lo = b.lo;
@@ -211,7 +211,7 @@ pub fn collect(d: Desk, caller: u64, ticket: u64) -> Outcome
             if r.halvings < HALVINGS {
                 return refused(d, 12);
             }
-            let s = settle::settled_at(r.kind, r.region, r.p, r.y, r.lo, r.hi);
+            let s = settle::settled_at(r.kind, settle::phase(r.region), r.p, r.y, r.lo, r.hi);
             let e = freed(d, i);
             Outcome {
                 answer: Answer::State(s),

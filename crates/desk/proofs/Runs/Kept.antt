@@ -10,7 +10,7 @@ use lib.Dec.{ltb, eqb}
 use lib.Ieee.{Float}
 use borrow.Author.Tests.{ltb-true, ltb-false}
 use Rattle.settle.specs.declared.Settled.{Settled}
-use Rattle.settle.proofs.Phases.{judged-region}
+use Rattle.settle.proofs.Phases.{phase-region}
 use Rattle.ledger.specs.declared.Row.{Row}
 use Rattle.ledger.specs.declared.Desk.{Desk}
 use Rattle.desk.specs.declared.Answer.the-variants as Answer
@@ -145,7 +145,7 @@ module _ (d : Desk) (g : Good d) (c k : ℕ) (p y : Float) (j : Job) (o : Grante
         least = counts-each (d .counts) c (counted d c + 1) (λ i x. i < 8 → x ≤ most) counts-wide (λ _. omega (arith, o .room)) (λ i q m. g .few i m);
         grows = counts-each (d .counts) c (counted d c + 1) (λ i x. i < 8 → counted d i ≤ x) counts-wide (λ _. omega arith) (λ i q m. omega arith);
         fits = λ e.
-            let r = judged-region k p y (j .query .region) (j .bracket .lo) (j .bracket .hi) (o .judgedTo) in
+            let r = phase-region (j .query .phase) in
             let q : j .query .kind ≡ k = ap (λ x. x .kind) (o .query) in
             record {
               known = o .who;

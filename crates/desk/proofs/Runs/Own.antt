@@ -9,6 +9,8 @@ use lib.Seq.{getD-set-same}
 use lib.Dec.{ltb}
 use lib.Ieee.{Float}
 use borrow.Author.Tests.{ltb-true, ltb-false, le-ltb}
+use Rattle.states.specs.declared.Phase.{Phase}
+use Rattle.settle.specs.declared.Bracket.{Bracket}
 use Rattle.settle.specs.declared.Judged.the-variants.{Within}
 use Rattle.settle.specs.declared.Settled.{Settled}
 use Rattle.settle.specs.Settle.{judgedOf}
@@ -19,6 +21,7 @@ use Rattle.desk.specs.declared.Open.{Open}
 use Rattle.desk.specs.declared.Open.the-variants.{At, Closed}
 use Rattle.ledger.specs.Rows.{due, row, counted, held, ofCaller, vacant, tally, lowest}
 use Rattle.desk.specs.Model.{newDesk, answers, refuse, Query, queryOf, bracketOf, halve, settle, fresh, openOf, emptied, peekAt, collectAt, peekOf, collectOf}
+use Rattle.settle.proofs.Phases.{phase-kept}
 use Rattle.ledger.proofs.Tests.{held-is}
 use Rattle.ledger.proofs.Changes.{row-each}
 use Rattle.ledger.proofs.Good.{Good, good-sound}
@@ -79,13 +82,17 @@ got d g c k p y t e = go (rulingAt d c k p y) refl
           leaves = rw (post-ruled d c k p y (good-sound d g), q);
         }
 
+-- the row of a job just posted names its query
+query-fresh : (c t : ℕ) (q : Query) (b : Bracket) → queryOf (fresh c t q b) ≡ q
+query-fresh c t q b = ap (λ (phase : Phase). asked (q .kind) phase (q .p) (q .y)) (phase-kept (q .phase))
+
 pub tracked-fresh : (d : Desk) → Good d → (c k : ℕ) (p y : Float) (t : ℕ) (j : Job) → Granted c k p y (counted d c) (tally (ofCaller c) d) j → counted d c ≡ t → Tracked c t j 0 (seats d c j)
 unfolding times
 tracked-fresh d g c k p y t j w own = record {
   mine = rw (getD-set-same (d .counts) c (counted d c + 1) 0 (counts-wide d g c k p y j w)) (omega arith);
   fits = row-each d (lowest vacant d) (fresh c (counted d c) (j .query) (j .bracket)) (set (d .counts) c (counted d c + 1)) (d .pointer)
       (λ i r. held c t r ≡ true → Fits j 0 (d .pointer) i r) (g .long) (seat-free d g c k p y j w)
-      (λ q. record { same = refl; halvedTo = refl; pace = λ s. omega (arith, ahead-lt (d .pointer) (lowest vacant d)) })
+      (λ q. record { same = query-fresh c (counted d c) (j .query) (j .bracket); halvedTo = refl; pace = λ s. omega (arith, ahead-lt (d .pointer) (lowest vacant d)) })
       (λ i l ne q. absurd (omega (arith, was-given d g c t i l q)));
 }
 
@@ -93,8 +100,8 @@ tracked-fresh d g c k p y t j w own = record {
 pub record Followed (c t k : ℕ) (p y : Float) (age : ℕ) (d : Desk) : Type 0 where
   pub good : Good d
   pub job : Job
-  pub query : job .query ≡ asked k (job .query .region) p y
-  pub judgedTo : judgedOf k p y ≡ Within (job .query .region) (job .bracket .lo) (job .bracket .hi)
+  pub query : job .query ≡ asked k (job .query .phase) p y
+  pub judgedTo : judgedOf k p y ≡ Within (job .query .phase) (job .bracket .lo) (job .bracket .hi)
   pub tracked : Tracked c t job age d
 
 pub followed : (c t k : ℕ) (p y : Float) (pre since : List Call) → answerTo pre (post c k p y) ≡ Ticket t → Followed c t k p y (turns since) (after (pre ++ post c k p y ∷ since))
@@ -162,7 +169,7 @@ module _ (d : Desk) (c t : ℕ) where
 module _ (c t k : ℕ) (p y : Float) (age : ℕ) (d : Desk) (w : Followed c t k p y age d) where
   shown : (i : ℕ) → Seat d c t i → HalvedTo k p y (row d i .halvings) (bracketOf (row d i))
   shown i s = record {
-    region = w .job .query .region;
+    phase = w .job .query .phase;
     first = w .job .bracket;
     judgedTo = w .judgedTo;
     halvings = w .tracked .fits i (s .place) (s .has) .halvedTo ∙ ap (λ (q : Query). times (halve q) (row d i .halvings) (w .job .bracket)) (w .query);

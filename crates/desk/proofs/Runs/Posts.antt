@@ -68,8 +68,8 @@ pub record Granted (c k : ℕ) (p y : Float) (n m : ℕ) (j : Job) : Type 0 wher
   pub spare : m < 4
   pub kind-low : 2 ≤ k
   pub kind-high : k ≤ 3
-  pub query : j .query ≡ asked k (j .query .region) p y
-  pub judgedTo : judgedOf k p y ≡ Within (j .query .region) (j .bracket .lo) (j .bracket .hi)
+  pub query : j .query ≡ asked k (j .query .phase) p y
+  pub judgedTo : judgedOf k p y ≡ Within (j .query .phase) (j .bracket .lo) (j .bracket .hi)
 
 pub ruling-given : (c k : ℕ) (p y : Float) (n m : ℕ) (j : Job) → ruling c k p y n m ≡ given j → Granted c k p y n m j
 unfolding ruling

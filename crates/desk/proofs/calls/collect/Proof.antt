@@ -40,18 +40,26 @@ refused-requires-2 c κs = tt
 returns : tie.Need-returns
 returns c = let s = c .before .before .before .before .before .before .before .before in c .refused2 .ensures ∙ collect-early (s .args .t1) _ (s .good .0) _ _ _ _ (opened (c .before .before .before .before .before)) (c .before .if1 .taken)
 
+phase-requires : tie.Need-phase-requires
+phase-requires c κs = tt
+
 settled-at-requires : tie.Need-settled-at-requires
 settled-at-requires c κs = tt
 
 freed-requires : tie.Need-freed-requires
-freed-requires c κs = inside (c .before .before .before .before .before)
+freed-requires c κs = inside (c .before .before .before .before .before .before)
 
 returns-2 : tie.Need-returns-2
 unfolding collectOf collectAt
 returns-2 c = rw (← c .before .before .before .before .look-up .ensures, c .before .before .o .given .1) (c .refused .ensures)
 
 returns-3 : tie.Need-returns-3
-returns-3 c = let s = c .before .before .before .before .before .before .before .before .before in rw (c .freed .ensures, c .before .settled-at .ensures) (collect-hands (s .args .t1) _ (s .good .0) _ _ _ _ (opened (c .before .before .before .before .before .before)) (c .before .before .if1 .left))
+returns-3 c =
+    let ready = c .before .before .before in
+    let row = ready .before .before .before .before in
+    let s = row .before .before .before in
+    rw (c .freed .ensures, c .before .settled-at .ensures, c .before .before .phase .ensures)
+    (collect-hands (s .args .t1) _ (s .good .0) _ _ _ _ (opened row) (ready .if1 .left))
 
 pub collect-spec : {M : Type 1} → statement M
 collect-spec =
@@ -65,6 +73,7 @@ collect-spec =
     element-copy-out-r
     refused-requires-2
     returns
+    phase-requires
     settled-at-requires
     freed-requires
     returns-2

@@ -4,6 +4,9 @@ use Rattle.desk.specs.Model.{halvedRow}
 use Rattle.desk.proofs.calls.halved.Statement.{statement}
 use Rattle.desk.proofs.calls.halved.Tie as tie
 
+phase-requires : tie.Need-phase-requires
+phase-requires c κs = tt
+
 halve-requires : tie.Need-halve-requires
 halve-requires c κs = tt
 
@@ -12,7 +15,7 @@ add-s c = search needs
 
 returns : tie.Need-returns
 unfolding halvedRow
-returns c = rw (c .before .halve .ensures)
+returns c = rw (c .before .halve .ensures, c .before .before .phase .ensures)
 
 pub halved-spec : {M : Type 1} → statement M
-halved-spec = tie.close (tie.spec halve-requires add-s returns)
+halved-spec = tie.close (tie.spec phase-requires halve-requires add-s returns)

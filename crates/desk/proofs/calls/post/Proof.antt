@@ -59,8 +59,13 @@ mul-ticket c = count-fits _ (caller-known (c .before .before .before .before))
 element-copy-out-ticket : tie.Need-element-copy-out-ticket
 element-copy-out-ticket c = caller-known (c .before .before .before .before)
 
+region-requires : tie.Need-region-requires
+region-requires c κs = tt
+
 admit-requires : tie.Need-admit-requires
-admit-requires c κs = (sound-here (c .before .before .before .before .before .before .before), caller-known (c .before .before .before .before .before))
+admit-requires c κs =
+    let known = c .before .before .before .before .before .before in
+    (sound-here (known .before .before), caller-known known)
 
 returns-3 : tie.Need-returns-3
 unfolding postOf judgedPost
@@ -68,7 +73,11 @@ returns-3 c = rw (sound-here (c .before .before .before .before .before .before 
 
 returns-4 : tie.Need-returns-4
 unfolding postOf judgedPost
-returns-4 c = rw (sound-here (c .before .before .before .before .before .before .before .before), known-here (c .before .before .before .before .before .before), ← c .before .before .before .before .before .judge .ensures, c .before .before .before .j2 .given .1) (c .admit .ensures)
+returns-4 c =
+    let within = c .before .before .before .before in
+    let judged = within .before .before in
+    let known = judged .before in
+    rw (sound-here (known .before .before), known-here known, ← judged .judge .ensures, within .j2 .given .1, ← c .before .region .ensures) (c .admit .ensures)
 
 pub post-spec : {M : Type 1} → statement M
 post-spec =
@@ -86,6 +95,7 @@ post-spec =
     enum-known-j-2
     mul-ticket
     element-copy-out-ticket
+    region-requires
     admit-requires
     returns-3
     returns-4)
