@@ -4,6 +4,7 @@ use native.Mathlib.Omega.{arith}
 use lib.ListN.{length, length-append}
 use Rattle.text.specs.declared.Cell.the-variants.{Value}
 use Rattle.text.proofs.Lengths.{digits, column-short}
+use Rattle.states.specs.Equations.{regionOf}
 use Rattle.states.specs.declared.Single.{Single}
 use Rattle.ledger.specs.Search.{bit}
 use Rattle.desk.specs.declared.Answer.{Answer}
@@ -32,7 +33,7 @@ state-short a =
     simp length-append
     (omega (
       arith,
-      digits (a .region),
+      digits (regionOf (a .equation)),
       digits (bit (a .verified)),
       column-short (Value (a .p)),
       column-short (Value (a .t)),

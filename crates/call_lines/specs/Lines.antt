@@ -2,6 +2,7 @@
 use Prim.Native.Nat.{ℕ}
 use mathlib.Core.List.{List, [], _∷_, _++_}
 use Rattle.text.specs.Texts.{blank, newline, numberColumn, floatColumn}
+use Rattle.states.specs.Equations.{regionOf}
 use Rattle.states.specs.declared.Single.{Single}
 use Rattle.ledger.specs.Search.{bit}
 use Rattle.desk.specs.declared.Answer.{Answer}
@@ -28,7 +29,7 @@ refusedOf (Withdraw caller ticket) n = numberColumn n newline
 -- region, mark (1 verified, 0 not), p, T, v, u, h, s, cp, w
 unfoldable pub stateColumns : Single → List ℕ
 stateColumns a =
-    numberColumn (a .region) blank
+    numberColumn (regionOf (a .equation)) blank
     ++ numberColumn (bit (a .verified)) blank
     ++ floatColumn (a .p) blank
     ++ floatColumn (a .t) blank

@@ -2,6 +2,7 @@
 use desk::Answer;
 use records::Call;
 use states::Single;
+use states::region_of;
 use text::Cell;
 ghost use mathlib.Core.Path.{_≡_};
 ghost use mathlib.Core.List.{[], _∷_, _++_};
@@ -100,7 +101,8 @@ fn state(s: Single, out: &mut [u8], at: usize) -> usize
     ensures { λ r. ⌜ Written (now (out .entry)) at (stateColumns s) (now (out .exit)) r ⌝ }
 {
     let q = s.state;
-    let at = text::decimal(s.region, b' ', out, at);
+    let equation = s.equation;
+    let at = text::decimal(region_of(equation), b' ', out, at);
     let at = text::decimal(bit(s.verified), b' ', out, at);
     let at = text::column(Cell::Value(s.p), b' ', out, at);
     let at = text::column(Cell::Value(s.t), b' ', out, at);

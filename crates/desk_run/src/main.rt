@@ -29,7 +29,8 @@ fn say(call: &[u8], answer: Answer) {
         } => line(call, 0, halvings),
         Answer::State(s) => {
             let single = s.single;
-            line(call, 0, single.region)
+            let equation = single.equation;
+            line(call, 0, states::region_of(equation))
         }
         Answer::Freed => line(call, 0, 0),
     }

@@ -11,17 +11,18 @@ use Rattle.text.specs.Texts.{joined, blank, newline}
 use Rattle.text.proofs.Lengths.{digits, column-short, joined-short}
 use Rattle.arith.specs.Bits.{floatOf}
 use Rattle.sums.specs.Answers.{numberOf, regionOf, valuesOf}
+use Rattle.slopes.specs.Answers as Slopes
 use Rattle.sums.specs.Quotients.{quotientOf}
 use Rattle.sums.specs.declared.Answer.{Answer}
-use Rattle.sums.specs.declared.Value.{Value}
-use Rattle.sums.specs.declared.Value.the-variants.{Missing}
+use Rattle.properties.specs.declared.Value.{Value}
+use Rattle.properties.specs.declared.Value.the-variants.{Missing}
 use Rattle.sheet.specs.declared.rows.Point.{Point}
 use Rattle.sheet.specs.Read.{readOf}
 use Rattle.sheet.specs.Rows.{rowOf}
 use Rattle.sheet.specs.declared.reader.Reading.{Reading}
 use Rattle.sheet.specs.declared.reader.Reading.the-variants.{Rows, Refused}
 use Rattle.sheet.proofs.ReadLaws.{trailer-rows, read-inv, read-fits}
-use Rattle.listing.specs.Lines.{cellOf, askedOf, verdictOf, valueColumn, valueColumns, answerLine, refusalOf, quotientCell, quotientLine, tripleLine, quotientLines, refusedLine}
+use Rattle.listing.specs.Lines.{cellOf, askedOf, verdictOf, valueColumn, valueColumns, answerLine, quotientLine, tripleLine, quotientLines, refusedLine}
 use Rattle.listing.specs.Listings.{longest, openedOf, headerOf, rowLine, lineAt, listedOf, regionsText, answersText, inTriples, triplesOf, quotientsHead, quotientsRow}
 use Rattle.listing.specs.declared.Listing.{Listing}
 use Rattle.listing.specs.declared.Listing.the-variants.{Regions, Answers}
@@ -60,7 +61,7 @@ quotient-short : (number : ℕ) (row : Point) (z x y : ℕ) → length (quotient
 unfolding quotientLine
 quotient-short number row z x y =
     let q = quotientOf (row .kind) (floatOf (row .first)) (floatOf (row .second)) z x y in
-    simp length-append (omega (arith, digits number, digits z, digits x, digits y, digits (refusalOf q), column-short (quotientCell q)))
+    simp length-append (omega (arith, digits number, digits z, digits x, digits y, digits (Slopes.numberOf q), column-short (cellOf (Slopes.valueOf q))))
 
 -- ---- texts
 

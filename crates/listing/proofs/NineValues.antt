@@ -8,7 +8,7 @@ use lib.ListN.{length, getD}
 use Rattle.sums.specs.Answers.{valuesOf}
 use Rattle.sums.specs.declared.Answer.{Answer}
 use Rattle.sums.specs.declared.Answer.the-variants as Answer
-use Rattle.sums.specs.declared.Value.{Value}
+use Rattle.properties.specs.declared.Value.{Value}
 
 any : {A : Type 0} (l : List A) (i : ℕ) (a b : A) → i < length l → getD l i a ≡ getD l i b
 any [] i a b h = absurd (not-suc-le-zero h)

@@ -13,10 +13,9 @@ use Rattle.sums.specs.Queries.{answerOf}
 use Rattle.sums.specs.Quotients.{quotientOf}
 use Rattle.sums.specs.declared.Answer.{Answer}
 use Rattle.sums.specs.declared.Answer.the-variants as Answer
-use Rattle.sums.specs.declared.Value.{Value}
-use Rattle.sums.specs.declared.Value.the-variants.{Is, Missing}
-use Rattle.slopes.specs.declared.Derivative.{Derivative}
-use Rattle.slopes.specs.declared.Derivative.the-variants as Derivative
+use Rattle.properties.specs.declared.Value.{Value}
+use Rattle.properties.specs.declared.Value.the-variants.{Is, Missing}
+use Rattle.slopes.specs.Answers as Slopes
 
 -- `refused N`, all that is said of a refused sheet
 unfoldable pub refusedLine : ℕ → List ℕ
@@ -62,21 +61,12 @@ answerLine number row = let a = askedOf row in verdictOf number (row .kind) a bl
 
 -- ---- quotients
 
--- the refusal, 0 if there is none
-abbrev pub refusalOf : Derivative → ℕ
-refusalOf (Derivative.Value q) = 0
-refusalOf (Derivative.Refused n) = n
-
-abbrev pub quotientCell : Derivative → Cell
-quotientCell (Derivative.Value q) = Cell.Value q
-quotientCell (Derivative.Refused n) = Cell.Empty
-
 -- the row's number, the properties z, x, y, the refusal and the value
 unfoldable pub quotientLine : ℕ → Point → ℕ → ℕ → ℕ → List ℕ
 quotientLine number row z x y =
     let q = quotientOf (row .kind) (floatOf (row .first)) (floatOf (row .second)) z x y in
-    numberColumn number blank ++ numberColumn z blank ++ numberColumn x blank ++ numberColumn y blank ++ numberColumn (refusalOf q) blank
-    ++ (columnOf (quotientCell q) ++ newline ∷ [])
+    numberColumn number blank ++ numberColumn z blank ++ numberColumn x blank ++ numberColumn y blank ++ numberColumn (Slopes.numberOf q) blank
+    ++ (columnOf (cellOf (Slopes.valueOf q)) ++ newline ∷ [])
 
 -- the line of the note's triple i
 abbrev pub tripleLine : ℕ → Point → List ℕ → ℕ → List ℕ

@@ -1,13 +1,12 @@
 // The columns that lines are made of (specs/Lines.antt).
+use properties::Value;
 use sheet::Point;
-use slopes::Derivative;
 use sums::Answer;
-use sums::Value;
 use text::Cell;
 ghost use mathlib.Core.Path.{_≡_};
 ghost use Rattle.text.specs.Room.{Written};
 ghost use Rattle.sums.specs.Answers.{valuesOf};
-ghost use Rattle.listing.specs.Lines.{askedOf, verdictOf, digitOf, markByte, cellOf, valueColumns, refusalOf, quotientCell};
+ghost use Rattle.listing.specs.Lines.{askedOf, verdictOf, digitOf, markByte, cellOf, valueColumns};
 
 // The query of a row.
 pub(crate) fn asked(row: Point) -> Answer
@@ -56,7 +55,7 @@ pub(crate) fn mark(a: Answer) -> u8
 }
 
 // A value as a column.
-fn cell(v: Value) -> Cell
+pub(crate) fn cell(v: Value) -> Cell
     ensures { λ r. ⌜ r ≡ cellOf v ⌝ }
 {
     match v {
@@ -79,24 +78,4 @@ pub(crate) fn values(a: Answer, out: &mut [u8], at: usize) -> usize
     }
     let x = values[8];
     text::column(cell(x), b'\n', out, p)
-}
-
-// The refusal of a derivative, 0 if there is none.
-pub(crate) fn refusal(q: Derivative) -> u64
-    ensures { λ r. ⌜ r ≡ refusalOf q ⌝ }
-{
-    match q {
-        Derivative::Value(_) => 0,
-        Derivative::Refused(n) => n,
-    }
-}
-
-// A derivative as a column.
-pub(crate) fn quotient_cell(q: Derivative) -> Cell
-    ensures { λ r. ⌜ r ≡ quotientCell q ⌝ }
-{
-    match q {
-        Derivative::Value(x) => Cell::Value(x),
-        Derivative::Refused(_) => Cell::Empty,
-    }
 }

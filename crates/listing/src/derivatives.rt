@@ -1,7 +1,6 @@
 // The text of `quotients` (specs/Listings.antt). A full note has 1,365 triples and a full sheet 1,000
 // rows, so the text is written part by part: its head, and then the lines of one row after the other.
-use crate::columns::quotient_cell;
-use crate::columns::refusal;
+use crate::columns::cell;
 use crate::lines::refused;
 use crate::opening::note;
 use sheet::Point;
@@ -29,8 +28,8 @@ fn line(number: u64, row: Point, z: u64, x: u64, y: u64, out: &mut [u8], at: usi
     let at = text::decimal(z, b' ', out, at);
     let at = text::decimal(x, b' ', out, at);
     let at = text::decimal(y, b' ', out, at);
-    let at = text::decimal(refusal(q), b' ', out, at);
-    text::column(quotient_cell(q), b'\n', out, at)
+    let at = text::decimal(slopes::number(q), b' ', out, at);
+    text::column(cell(slopes::value(q)), b'\n', out, at)
 }
 
 // Writes a row's line for each triple of the note in turn.

@@ -8,6 +8,9 @@ use borrow.Author.Needs.{needs}
 use Rattle.call_lines.proofs.state.Statement.{statement}
 use Rattle.call_lines.proofs.state.Tie as tie
 
+region-of-requires : tie.Need-region-of-requires
+region-of-requires c κs = search needs
+
 decimal-requires : tie.Need-decimal-requires
 decimal-requires c κs = search needs
 
@@ -55,7 +58,11 @@ returns c =
     let mark = p .before .before .before .before in
     let bit = mark .before .before in
     let region = bit .before .before .before in
-    let front = then (region .decimal .ensures) (said (ap (λ (n : ℕ). numberColumn n blank) (bit .bit .ensures)) (mark .decimal2 .ensures)) in
+    let number = region .before .before in
+    let front =
+    then
+    (said (ap (λ (n : ℕ). numberColumn n blank) (number .region-of .ensures)) (region .decimal .ensures))
+    (said (ap (λ (n : ℕ). numberColumn n blank) (bit .bit .ensures)) (mark .decimal2 .ensures)) in
     let place = then (then front (p .column .ensures)) (t .column2 .ensures) in
     let energy = then (then (then place (v .column3 .ensures)) (u .column4 .ensures)) (h .column5 .ensures) in
     then (then (then energy (s .column6 .ensures)) (cp .column7 .ensures)) (w .column8 .ensures)
@@ -67,6 +74,7 @@ pub state-spec : {M : Type 1} → statement M
 state-spec =
     tie.close
     (tie.spec
+    region-of-requires
     decimal-requires
     bit-requires
     decimal-requires-2

@@ -2,8 +2,8 @@
 use mathlib.Core.List.{[], _∷_, _++_}
 use Rattle.text.specs.Texts.{columnOf, joined, blank, newline}
 use Rattle.text.specs.declared.Cell.{Cell}
-use Rattle.sums.specs.declared.Value.{Value}
-use Rattle.sums.specs.declared.Value.the-variants.{Missing}
+use Rattle.properties.specs.declared.Value.{Value}
+use Rattle.properties.specs.declared.Value.the-variants.{Missing}
 use Rattle.listing.specs.Lines.{cellOf}
 use Rattle.listing.proofs.NineValues.{value-at}
 use Prim.Native.Nat.{ℕ, _+_, _-_, _≤_}

@@ -1,6 +1,6 @@
 -- `listing::derivatives::line` meets its contract: six columns, one behind the other. Assumes nothing.
 use Prim.Native.Nat.{ℕ}
-use mathlib.Core.Path.{_≡_, ap}
+use mathlib.Core.Path.{_≡_, ap, _∙_}
 use mathlib.Core.List.{List, [], _∷_, _++_}
 use lib.Ieee.{Float}
 use Rattle.text.specs.Texts.{columnOf, blank, newline, numberColumn}
@@ -8,7 +8,8 @@ use Rattle.text.specs.declared.Cell.{Cell}
 use Rattle.text.proofs.Pieces.{then, said}
 use Rattle.sums.specs.Quotients.{quotientOf}
 use Rattle.slopes.specs.declared.Derivative.{Derivative}
-use Rattle.listing.specs.Lines.{refusalOf, quotientCell, quotientLine}
+use Rattle.slopes.specs.Answers.{numberOf, valueOf}
+use Rattle.listing.specs.Lines.{cellOf, quotientLine}
 use borrow.Author.Needs.{needs}
 use Rattle.listing.proofs.derivatives.line.Statement.{statement}
 use Rattle.listing.proofs.derivatives.line.Tie as tie
@@ -16,8 +17,8 @@ use Rattle.listing.proofs.derivatives.line.Tie as tie
 -- the line of a derivative
 abbrev columns : ℕ → ℕ → ℕ → ℕ → Derivative → List ℕ
 columns number z x y q =
-    numberColumn number blank ++ numberColumn z blank ++ numberColumn x blank ++ numberColumn y blank ++ numberColumn (refusalOf q) blank
-    ++ (columnOf (quotientCell q) ++ newline ∷ [])
+    numberColumn number blank ++ numberColumn z blank ++ numberColumn x blank ++ numberColumn y blank ++ numberColumn (numberOf q) blank
+    ++ (columnOf (cellOf (valueOf q)) ++ newline ∷ [])
 
 -- the derivative at the values that bits stand for
 at-bits : (kind z x y : ℕ) {q : Derivative} {c c′ d d′ : Float} → q ≡ quotientOf kind c d z x y → c ≡ c′ → d ≡ d′ → q ≡ quotientOf kind c′ d′ z x y
@@ -44,14 +45,17 @@ decimal-requires-3 c κs = search needs
 decimal-requires-4 : tie.Need-decimal-requires-4
 decimal-requires-4 c κs = search needs
 
-refusal-requires : tie.Need-refusal-requires
-refusal-requires c κs = search needs
+number-requires : tie.Need-number-requires
+number-requires c κs = search needs
 
 decimal-requires-5 : tie.Need-decimal-requires-5
 decimal-requires-5 c κs = search needs
 
-quotient-cell-requires : tie.Need-quotient-cell-requires
-quotient-cell-requires c κs = search needs
+value-requires : tie.Need-value-requires
+value-requires c κs = search needs
+
+cell-requires : tie.Need-cell-requires
+cell-requires c κs = search needs
 
 column-requires : tie.Need-column-requires
 column-requires c κs = search needs
@@ -62,9 +66,10 @@ same-length c = search needs
 returns : tie.Need-returns
 unfolding quotientLine
 returns c =
-    let value = c .before .before in
-    let cell = value .before .before in
-    let fifth = cell .before .before .before in
+    let column = c .before .before in
+    let cell = column .before .before in
+    let value = cell .before in
+    let fifth = value .before .before .before in
     let refusal = fifth .before .before in
     let fourth = refusal .before .before .before in
     let third = fourth .before .before .before .before in
@@ -79,8 +84,8 @@ returns c =
     (then
     (then
     (then (then (then (first .decimal .ensures) (second .decimal2 .ensures)) (third .decimal3 .ensures)) (fourth .decimal4 .ensures))
-    (said (ap (λ (n : ℕ). numberColumn n blank) (refusal .refusal .ensures)) (fifth .decimal5 .ensures)))
-    (said (ap (λ (x : Cell). columnOf x ++ newline ∷ []) (cell .quotient-cell .ensures)) (value .column .ensures)))
+    (said (ap (λ (n : ℕ). numberColumn n blank) (refusal .number .ensures)) (fifth .decimal5 .ensures)))
+    (said (ap (λ (x : Cell). columnOf x ++ newline ∷ []) (cell .cell .ensures ∙ ap cellOf (value .value .ensures))) (column .column .ensures)))
 
 pub line-spec : {M : Type 1} → statement M
 line-spec =
@@ -93,9 +98,10 @@ line-spec =
     decimal-requires-2
     decimal-requires-3
     decimal-requires-4
-    refusal-requires
+    number-requires
     decimal-requires-5
-    quotient-cell-requires
+    value-requires
+    cell-requires
     column-requires
     same-length
     returns)
