@@ -76,11 +76,11 @@ placePT p t =
 
 -- ---- (p,h) and (p,s): y is the h or s given
 
--- p ≤ P: y' and y'' are those of saturated liquid and vapour, and both are wet
+-- p ≤ P: y' and y'' are those of saturated liquid and vapour at Ts(p), and both are wet
 unfoldable pub saturatedOf : Given → Float → Float → Side
 saturatedOf given p y =
     cond (lt y (propertyAt given Liquid p (tsOf p))) (Side.Phase Liquid)
-    (cond (le y (propertyAt given Vapour p (tsOf p))) Side.Wet
+    (cond (le y (propertyAt given Vapour p (tsOf p))) (Side.Wet (tsOf p))
     (Side.Phase Vapour))
 
 -- p > P: between the liquid up to 623.15 K and the vapour from the boundary B23 on lies region 3

@@ -19,9 +19,9 @@ pub enum Place {
     Refused(u64),
 }
 
-// Where p and an h or s lie: in one phase, between liquid and vapour, or the refusal.
+// Where p and an h or s lie: in one phase, wet at a temperature in K, or the refusal.
 pub enum Side {
     Phase(Phase),
-    Wet,
+    Wet(f64),
     Refused(u64),
 }

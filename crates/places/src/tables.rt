@@ -61,7 +61,7 @@ fn saturated(given: Given, p: f64, y: f64) -> Side
         return Side::Phase(Phase::Liquid);
     }
     if y <= property(given, Phase::Vapour, p, t) {
-        return Side::Wet;
+        return Side::Wet(t);
     }
     Side::Phase(Phase::Vapour)
 }

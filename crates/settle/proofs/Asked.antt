@@ -41,20 +41,20 @@ bracketIn p (Answer.Refused n) = []
 
 number-placed : (given : Given) (p y : Float) (w : Side) → numberOf (judgedBy p w) ≡ refusalOf (placedPY given p y w)
 number-placed given p y (Side.Phase phase) = refl
-number-placed given p y Side.Wet = refl
+number-placed given p y (Side.Wet t) = refl
 number-placed given p y (Side.Refused n) = refl
 
 region-placed : (given : Given) (p y : Float) (w : Side) → regionOf (judgedBy p w) ≡ halvedIn (placedPY given p y w)
 unfolding markedOf
 region-placed given p y (Side.Phase phase) = refl
-region-placed given p y Side.Wet = refl
+region-placed given p y (Side.Wet t) = refl
 region-placed given p y (Side.Refused n) = refl
 
 values-placed : (given : Given) (p y : Float) (w : Side) → valuesOf (judgedBy p w) ≡ bracketIn p (placedPY given p y w)
 unfolding markedOf
 values-placed given p y (Side.Phase Liquid) = refl
 values-placed given p y (Side.Phase Vapour) = refl
-values-placed given p y Side.Wet = refl
+values-placed given p y (Side.Wet t) = refl
 values-placed given p y (Side.Refused n) = refl
 
 -- kinds 2 and 3 are asked by h and by s

@@ -38,7 +38,7 @@ bracketOf Vapour p = record { lo = vapourStart p; hi = t1073 }
 -- A query is placed as everywhere; a wet one is refused by 8, since one phase is needed.
 abbrev pub judgedBy : Float → Side → Judged
 judgedBy p (Side.Phase phase) = Within phase (bracketOf phase p .lo) (bracketOf phase p .hi)
-judgedBy p Side.Wet = Refused 8
+judgedBy p (Side.Wet t) = Refused 8
 judgedBy p (Side.Refused n) = Refused n
 
 unfoldable pub judgedOf : ℕ → Float → Float → Judged

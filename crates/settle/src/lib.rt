@@ -88,7 +88,7 @@ pub fn judge(kind: u64, p: f64, y: f64) -> Judged
                 hi: b.hi,
             }
         }
-        Side::Wet => Judged::Refused(8),
+        Side::Wet(_) => Judged::Refused(8),
         Side::Refused(n) => Judged::Refused(n),
     }
 }

@@ -2,7 +2,6 @@
 use lib.Ieee.{Float}
 use Rattle.arith.specs.F64.{_⊕_, _⊖_, _⊗_, _⊘_}
 use Rattle.properties.specs.declared.State.{State}
-use Rattle.saturation.specs.Saturation.{tsOf}
 use Rattle.liquid.specs.Region1.{state1}
 use Rattle.vapour.specs.Region2.{state2}
 use Rattle.states.specs.States.{givenOf}
@@ -32,5 +31,5 @@ mixtureOf given p y t liquid vapour =
       verified = verifiedOf given h s y;
     }
 
-unfoldable pub wetOf : Given → Float → Float → Wet
-wetOf given p y = let t = tsOf p in mixtureOf given p y t (state1 p t) (state2 p t)
+unfoldable pub wetOf : Given → Float → Float → Float → Wet
+wetOf given p y t = mixtureOf given p y t (state1 p t) (state2 p t)

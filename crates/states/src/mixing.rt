@@ -38,11 +38,10 @@ fn mixture(given: Given, p: f64, y: f64, t: f64, liquid: Unrooted, vapour: Unroo
     }
 }
 
-// The wet state at p in MPa that has the h in kJ/kg or s in kJ/(kg K) asked.
-pub fn wet_at(given: Given, p: f64, y: f64) -> Wet
-    ensures { λ r. ⌜ r ≡ wetOf given p y ⌝ }
+// The wet state at p in MPa and its Ts in K that has the h in kJ/kg or s in kJ/(kg K) asked.
+pub fn wet_at(given: Given, p: f64, y: f64, t: f64) -> Wet
+    ensures { λ r. ⌜ r ≡ wetOf given p y t ⌝ }
 {
-    let t = saturation::ts(p);
     let liquid = Region1::unrooted_of(p, t, Region1::gamma(p, t));
     let vapour = Region2::unrooted_of(p, t, Region2::gamma(p, t));
     mixture(given, p, y, t, liquid, vapour)

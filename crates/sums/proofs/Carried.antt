@@ -80,7 +80,7 @@ pt-same p t = placed-pt p t (placePT p t)
 placed-py : (given : Given) (p y : Float) (w : Side) → markedIn given y (foundOf (placedPY given p y w)) ≡ placedPY given p y w
 unfolding markedOf
 placed-py given p y (Side.Phase phase) = refl
-placed-py given p y Side.Wet = refl
+placed-py given p y (Side.Wet t) = refl
 placed-py given p y (Side.Refused n) = refl
 
 pub py-same : (given : Given) (p y : Float) → markedIn given y (foundOf (answerPY given p y)) ≡ answerPY given p y

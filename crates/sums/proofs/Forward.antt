@@ -39,7 +39,7 @@ forward-pt p t = placed-pt p t (placePT p t)
 placed-py : (given : Given) (p y : Float) (w : Side) → Forward (placedPY given p y w)
 unfolding markedOf
 placed-py given p y (Side.Phase phase) = single
-placed-py given p y Side.Wet = wet
+placed-py given p y (Side.Wet t) = wet
 placed-py given p y (Side.Refused n) = refused
 
 pub forward-py : (given : Given) (p y : Float) → Forward (answerPY given p y)

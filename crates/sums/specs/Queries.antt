@@ -41,7 +41,7 @@ temperatureOf given Vapour p y = givenOf given (t2ph p y) (t2ps p y)
 
 abbrev pub placedPY : Given → Float → Float → Side → Answer
 placedPY given p y (Side.Phase phase) = Single (markedOf given (equationOf phase) p y (temperatureOf given phase p y))
-placedPY given p y Side.Wet = Wet (wetOf given p y)
+placedPY given p y (Side.Wet t) = Wet (wetOf given p y t)
 placedPY given p y (Side.Refused n) = Refused n
 
 unfoldable pub answerPY : Given → Float → Float → Answer

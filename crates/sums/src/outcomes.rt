@@ -117,7 +117,7 @@ pub(crate) fn of_py(given: Given, p: f64, y: f64) -> Found
             let t = temperature(given, phase, p, y);
             Found::Single(Spot { equation, p, t })
         }
-        Side::Wet => Found::Wet(wet_at(given, p, y)),
+        Side::Wet(t) => Found::Wet(wet_at(given, p, y, t)),
         Side::Refused(n) => Found::Refused(n),
     }
 }

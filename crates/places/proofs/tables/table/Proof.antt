@@ -1,6 +1,8 @@
 -- `places::tables::table` meets its contract: each return stands under the tests that led there. Assumes nothing.
+use mathlib.Core.Path.{_≡_, refl}
+use mathlib.Core.Bool.{true, false}
 use borrow.Author.Needs.{needs}
-use lib.Ieee.{round, ofBits, ofInt}
+use lib.Ieee.{le, round, ofBits, ofInt}
 use Rattle.arith.specs.Printed.{printed}
 use Rattle.places.specs.Places.{tableOf}
 use Rattle.places.proofs.tables.table.Statement.{statement}
@@ -11,11 +13,17 @@ ps-requires c κs = search needs
 
 returns : tie.Need-returns
 unfolding tableOf printed round ofBits ofInt
-returns c = rw (c .before .before .if1 .taken, ← c .before .ps .ensures, c .if2 .taken)
+returns c =
+    let cold = c .before .before in
+    let liquid : le (c .before .ps .result) (cold .before .args .p) ≡ true = c .if2 .taken in
+    rw (cold .if1 .taken, ← c .before .ps .ensures, liquid) refl
 
 returns-2 : tie.Need-returns-2
 unfolding tableOf printed round ofBits ofInt
-returns-2 c = rw (c .before .before .if1 .taken, ← c .before .ps .ensures, c .if2 .left)
+returns-2 c =
+    let cold = c .before .before in
+    let vapour : le (c .before .ps .result) (cold .before .args .p) ≡ false = c .if2 .left in
+    rw (cold .if1 .taken, ← c .before .ps .ensures, vapour) refl
 
 p-b23-requires : tie.Need-p-b23-requires
 p-b23-requires c κs = search needs

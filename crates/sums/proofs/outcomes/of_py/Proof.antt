@@ -15,8 +15,8 @@ returns c =
 returns-2 : tie.Need-returns-2
 unfolding answerPY
 returns-2 c =
-    let place = c .before in
-    rw (c .wet-at .ensures, ← place .before .before .place-py .ensures, place .enum-told .given .1) refl
+    let place = c .before .before in
+    rw (c .wet-at .ensures, ← place .before .before .place-py .ensures, place .t .given .1) refl
 
 returns-3 : tie.Need-returns-3
 unfolding answerPY
