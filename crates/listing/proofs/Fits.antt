@@ -10,10 +10,10 @@ use lib.ListN.{length, take, getD, length-append, length-take}
 use Rattle.text.specs.Texts.{joined, blank, newline}
 use Rattle.text.proofs.Lengths.{digits, column-short, joined-short}
 use Rattle.arith.specs.Bits.{floatOf}
-use Rattle.sums.specs.Answers.{numberOf, regionOf, valuesOf}
+use Rattle.reply.specs.Answers.{numberOf, regionOf, valuesOf}
 use Rattle.slopes.specs.Answers as Slopes
 use Rattle.sums.specs.Quotients.{quotientOf}
-use Rattle.sums.specs.declared.Answer.{Answer}
+use Rattle.reply.specs.declared.Answer.{Answer}
 use Rattle.properties.specs.declared.Value.{Value}
 use Rattle.properties.specs.declared.Value.the-variants.{Missing}
 use Rattle.sheet.specs.declared.rows.Point.{Point}

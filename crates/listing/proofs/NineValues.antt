@@ -5,9 +5,9 @@ use native.Mathlib.Omega.{arith}
 use mathlib.Core.Path.{_≡_, refl, ap, _∙_}
 use mathlib.Core.List.{List, [], _∷_}
 use lib.ListN.{length, getD}
-use Rattle.sums.specs.Answers.{valuesOf}
-use Rattle.sums.specs.declared.Answer.{Answer}
-use Rattle.sums.specs.declared.Answer.the-variants as Answer
+use Rattle.reply.specs.Answers.{valuesOf}
+use Rattle.reply.specs.declared.Answer.{Answer}
+use Rattle.reply.specs.declared.Answer.the-variants as Answer
 use Rattle.properties.specs.declared.Value.{Value}
 
 any : {A : Type 0} (l : List A) (i : ℕ) (a b : A) → i < length l → getD l i a ≡ getD l i b

@@ -8,11 +8,11 @@ use Rattle.text.specs.Texts.{columnOf, blank, newline, numberColumn, joined}
 use Rattle.text.specs.declared.Cell.{Cell}
 use Rattle.text.specs.declared.Cell.the-variants as Cell
 use Rattle.sheet.specs.declared.rows.Point.{Point}
-use Rattle.sums.specs.Answers.{numberOf, regionOf, valuesOf}
+use Rattle.reply.specs.Answers.{numberOf, regionOf, valuesOf}
 use Rattle.sums.specs.Queries.{answerOf}
 use Rattle.sums.specs.Quotients.{quotientOf}
-use Rattle.sums.specs.declared.Answer.{Answer}
-use Rattle.sums.specs.declared.Answer.the-variants as Answer
+use Rattle.reply.specs.declared.Answer.{Answer}
+use Rattle.reply.specs.declared.Answer.the-variants as Answer
 use Rattle.properties.specs.declared.Value.{Value}
 use Rattle.properties.specs.declared.Value.the-variants.{Is, Missing}
 use Rattle.slopes.specs.Answers as Slopes

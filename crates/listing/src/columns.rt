@@ -1,11 +1,11 @@
 // The columns that lines are made of (specs/Lines.antt).
 use properties::Value;
+use reply::Answer;
 use sheet::Point;
-use sums::Answer;
 use text::Cell;
 ghost use mathlib.Core.Path.{_≡_};
 ghost use Rattle.text.specs.Room.{Written};
-ghost use Rattle.sums.specs.Answers.{valuesOf};
+ghost use Rattle.reply.specs.Answers.{valuesOf};
 ghost use Rattle.listing.specs.Lines.{askedOf, verdictOf, digitOf, markByte, cellOf, valueColumns};
 
 // The query of a row.
@@ -32,8 +32,8 @@ pub(crate) fn verdict(
 {
     let at = text::decimal(number, b' ', out, at);
     let at = text::decimal(kind, b' ', out, at);
-    let at = text::decimal(sums::number(a), b' ', out, at);
-    text::decimal(sums::region(a), end, out, at)
+    let at = text::decimal(reply::number(a), b' ', out, at);
+    text::decimal(reply::region(a), end, out, at)
 }
 
 // A mark as a digit.
@@ -68,7 +68,7 @@ pub(crate) fn cell(v: Value) -> Cell
 pub(crate) fn values(a: Answer, out: &mut [u8], at: usize) -> usize
     ensures { λ r. ⌜ Written (now (out .entry)) at (valueColumns (valuesOf a)) (now (out .exit)) r ⌝ }
 {
-    let values = sums::values(a);
+    let values = reply::values(a);
     let mut p = at;
     let mut k = 0;
     while k < 8 {

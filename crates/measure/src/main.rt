@@ -7,8 +7,8 @@ use desk::Desk;
 use desk::Outcome;
 use liquid::Region1;
 use properties::State;
+use reply::Answer;
 use slopes::Derivative;
-use sums::Answer;
 use vapour::Region2;
 
 // Every property of a state, so that none is left unworked.

@@ -9,7 +9,7 @@ use Rattle.backward.specs.Subregions.{byHs}
 use Rattle.backward.specs.declared.subregion.Subregion.{Subregion}
 use Rattle.backward.specs.declared.subregion.Subregion.the-variants.{A, B, C}
 use Rattle.sheet.specs.Write.{sheetOf}
-use Rattle.sums.specs.Answers.{numberOf, regionOf}
+use Rattle.reply.specs.Answers.{numberOf, regionOf}
 use Rattle.sums.specs.Queries.{answerPT}
 
 -- the answer to p in MPa and T in K; the subregion of 2 of h in kJ/kg and s in kJ/(kg K); the sheet of a note and rows

@@ -15,9 +15,9 @@ use Rattle.places.specs.Places.{placePY}
 use Rattle.places.specs.declared.Side.{Side}
 use Rattle.places.specs.declared.Side.the-variants as Side
 use Rattle.sums.specs.Queries.{placedPY, answerPY, answerOf}
-use Rattle.sums.specs.Answers as Sums
-use Rattle.sums.specs.declared.Answer.{Answer}
-use Rattle.sums.specs.declared.Answer.the-variants as Answer
+use Rattle.reply.specs.Answers as Sums
+use Rattle.reply.specs.declared.Answer.{Answer}
+use Rattle.reply.specs.declared.Answer.the-variants as Answer
 use Rattle.settle.specs.Settle.{postedOf, givenOf, bracketOf, judgedBy, judgedOf}
 use Rattle.settle.specs.Answers.{numberOf, regionOf, valuesOf}
 use Rattle.settle.specs.Phases.{phaseOf}

@@ -21,8 +21,8 @@ use Rattle.sums.proofs.Forward.Forward.{single, wet, refused}
 use Rattle.sums.specs.Queries.{firstOf, placedPT, answerPT, placedPY, answerPY}
 use Rattle.sums.specs.Quotients.{quotientAt}
 use Rattle.sums.specs.Outcomes.{outcomeOf, quotientCarried, shownOf, foundOf, quotientFound, verifiedIn, markedIn}
-use Rattle.sums.specs.declared.Answer.{Answer}
-use Rattle.sums.specs.declared.Answer.the-variants as Answer
+use Rattle.reply.specs.declared.Answer.{Answer}
+use Rattle.reply.specs.declared.Answer.the-variants as Answer
 use Rattle.sums.specs.declared.outcomes.Outcome.{Outcome}
 use Rattle.sums.specs.declared.outcomes.Outcome.the-variants.{Single, Wet, Refused}
 

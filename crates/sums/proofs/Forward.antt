@@ -15,8 +15,8 @@ use Rattle.places.specs.declared.Place.the-variants as Place
 use Rattle.places.specs.declared.Side.{Side}
 use Rattle.places.specs.declared.Side.the-variants as Side
 use Rattle.places.specs.Places.{wild, pTriple, placePT, placePY}
-use Rattle.sums.specs.declared.Answer.{Answer}
-use Rattle.sums.specs.declared.Answer.the-variants as Answer
+use Rattle.reply.specs.declared.Answer.{Answer}
+use Rattle.reply.specs.declared.Answer.the-variants as Answer
 use Rattle.sums.specs.Queries.{placedPT, answerPT, placedPY, answerPY, pressureOf, agrees, agreedOf, candidateOf, firstOf, answerHS, answerOf}
 
 pub data Forward : Answer → Type 0 where

@@ -2,14 +2,6 @@
 -- `Post` is the promise itself, read off the source, so a promise that said less would fail here.
 use mathlib.Core.Path.{sym, _∙_}
 use Rattle.arith.proofs.Only.{Only}
-use Rattle.sums.proofs.answers.mark.Kinds as mark-kinds
-use Rattle.sums.proofs.answers.mark.Reads as mark
-use Rattle.sums.proofs.answers.number.Kinds as number-kinds
-use Rattle.sums.proofs.answers.number.Reads as number
-use Rattle.sums.proofs.answers.region.Kinds as region-kinds
-use Rattle.sums.proofs.answers.region.Reads as region
-use Rattle.sums.proofs.answers.values.Kinds as values-kinds
-use Rattle.sums.proofs.answers.values.Reads as values
 use Rattle.sums.proofs.derived.quotient.Kinds as quotient-kinds
 use Rattle.sums.proofs.derived.quotient.Reads as quotient
 use Rattle.sums.proofs.queries.from_hs.Kinds as from-hs-kinds
@@ -40,15 +32,3 @@ query-only κs a x y s t p q = p ∙ sym q
 
 pub quotient-only : Only 0 quotient-kinds.ps quotient-kinds.r quotient.Post
 quotient-only κs a x y s t p q = p ∙ sym q
-
-pub number-only : Only 0 number-kinds.ps number-kinds.r number.Post
-number-only κs a x y s t p q = p ∙ sym q
-
-pub region-only : Only 0 region-kinds.ps region-kinds.r region.Post
-region-only κs a x y s t p q = p ∙ sym q
-
-pub mark-only : Only 0 mark-kinds.ps mark-kinds.r mark.Post
-mark-only κs a x y s t p q = p ∙ sym q
-
-pub values-only : Only 0 values-kinds.ps values-kinds.r values.Post
-values-only κs a x y s t p q = p ∙ sym q

@@ -1,4 +1,3 @@
-pub mod Answers
 pub mod Queries
 pub mod Quotients
 pub mod Outcomes

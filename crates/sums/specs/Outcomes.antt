@@ -10,8 +10,8 @@ use Rattle.states.specs.declared.Given.{Given}
 use Rattle.slopes.specs.Slopes.{ratioAt}
 use Rattle.slopes.specs.declared.Derivative.{Derivative}
 use Rattle.slopes.specs.declared.Derivative.the-variants as Derivative
-use Rattle.sums.specs.declared.Answer.{Answer}
-use Rattle.sums.specs.declared.Answer.the-variants as Answer
+use Rattle.reply.specs.declared.Answer.{Answer}
+use Rattle.reply.specs.declared.Answer.the-variants as Answer
 use Rattle.sums.specs.declared.outcomes.Found.{Found}
 use Rattle.sums.specs.declared.outcomes.Found.the-variants as Found
 use Rattle.sums.specs.declared.outcomes.Outcome.{Outcome}

@@ -21,8 +21,8 @@ use Rattle.places.specs.declared.Side.{Side}
 use Rattle.places.specs.declared.Side.the-variants as Side
 use Rattle.states.specs.declared.Phase.{Phase}
 use Rattle.states.specs.declared.Phase.the-variants.{Liquid, Vapour}
-use Rattle.sums.specs.declared.Answer.{Answer}
-use Rattle.sums.specs.declared.Answer.the-variants.{Single, Wet, Refused}
+use Rattle.reply.specs.declared.Answer.{Answer}
+use Rattle.reply.specs.declared.Answer.the-variants.{Single, Wet, Refused}
 
 -- ---- (p,T): nothing was asked back, so the state is verified
 

@@ -7,8 +7,8 @@ use Rattle.slopes.specs.Slopes.{ratioAt, allKnown}
 use Rattle.slopes.specs.declared.Derivative.{Derivative}
 use Rattle.slopes.specs.declared.Derivative.the-variants.{Refused}
 use Rattle.sums.specs.Queries.{answerOf}
-use Rattle.sums.specs.declared.Answer.{Answer}
-use Rattle.sums.specs.declared.Answer.the-variants as Answer
+use Rattle.reply.specs.declared.Answer.{Answer}
+use Rattle.reply.specs.declared.Answer.the-variants as Answer
 
 -- of a state of one phase alone
 abbrev pub quotientAt : Answer → ℕ → ℕ → ℕ → Derivative

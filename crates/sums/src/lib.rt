@@ -2,28 +2,14 @@
 // (p,h), (p,s) or (h,s), or the refusal number. Every call takes every number; what it answers is
 // said in specs/. Units: p in MPa, T in K, v in m³/kg, u and h in kJ/kg, s and cp in kJ/(kg K), w in
 // m/s.
-mod answers;
 mod candidates;
 mod derived;
 mod outcomes;
 mod queries;
 
-pub use answers::mark;
-pub use answers::number;
-pub use answers::region;
-pub use answers::values;
 pub use derived::quotient;
 pub use queries::from_hs;
 pub use queries::from_ph;
 pub use queries::from_ps;
 pub use queries::from_pt;
 pub use queries::query;
-use states::Single;
-use states::Wet;
-
-// What a query is answered.
-pub enum Answer {
-    Single(Single),
-    Wet(Wet),
-    Refused(u64),
-}

@@ -1,13 +1,13 @@
 // Queries from the inside: where the state lies that a query finds, so that a state or a derivative is
 // worked there and nothing of the other (specs/Queries.antt, specs/Outcomes.antt). An (h,s) query works
 // a state to judge it, and carries that.
-use crate::Answer;
 use crate::candidates::candidate;
 use places::Place;
 use places::Side;
 use places::place_pt;
 use places::place_py;
 use places::wild;
+use reply::Answer;
 use states::Equation;
 use states::Full;
 use states::Given;

@@ -1,11 +1,11 @@
 // The four kinds of query, and the query whose kind is a number (specs/Queries.antt).
-use crate::Answer;
 use crate::outcomes::marked_in;
 use crate::outcomes::of_hs;
 use crate::outcomes::of_pt;
 use crate::outcomes::of_py;
 use crate::outcomes::shown;
 use crate::outcomes::verified_in;
+use reply::Answer;
 use states::Given;
 ghost use mathlib.Core.Path.{_≡_};
 ghost use Rattle.states.specs.declared.Given.the-variants.{Enthalpy, Entropy};

@@ -20,8 +20,8 @@ pub enum Known {
 pub(crate) fn ask(p: f64, t: f64) -> Known {
     let answer = sums::from_pt(p, t);
     match answer {
-        sums::Answer::Single(a) => Known::State(a),
-        sums::Answer::Wet(_) => Known::Refused(8),
-        sums::Answer::Refused(n) => Known::Refused(n),
+        reply::Answer::Single(a) => Known::State(a),
+        reply::Answer::Wet(_) => Known::Refused(8),
+        reply::Answer::Refused(n) => Known::Refused(n),
     }
 }

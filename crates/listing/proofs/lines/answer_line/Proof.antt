@@ -3,8 +3,8 @@ use Prim.Native.Nat.{ℕ}
 use mathlib.Core.Path.{ap}
 use mathlib.Core.List.{[], _∷_, _++_}
 use Rattle.text.proofs.Pieces.{then, said}
-use Rattle.sums.specs.Answers.{valuesOf}
-use Rattle.sums.specs.declared.Answer.{Answer}
+use Rattle.reply.specs.Answers.{valuesOf}
+use Rattle.reply.specs.declared.Answer.{Answer}
 use Rattle.text.specs.Texts.{blank}
 use Rattle.listing.specs.Lines.{verdictOf, markByte, valueColumns, answerLine}
 use borrow.Author.Needs.{needs}

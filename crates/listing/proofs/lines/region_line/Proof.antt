@@ -1,7 +1,7 @@
 -- `listing::lines::region_line` meets its contract: the verdict on the row's query. Assumes nothing.
 use mathlib.Core.Path.{ap}
 use Rattle.text.proofs.Pieces.{said}
-use Rattle.sums.specs.declared.Answer.{Answer}
+use Rattle.reply.specs.declared.Answer.{Answer}
 use Rattle.text.specs.Texts.{newline}
 use Rattle.listing.specs.Lines.{verdictOf}
 use borrow.Author.Needs.{needs}

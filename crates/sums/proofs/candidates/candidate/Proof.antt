@@ -1,8 +1,10 @@
 -- `sums::candidates::candidate` meets its contract: a p below the least ends in 7; at any other the T is that of p and h. Assumes nothing.
+use mathlib.Core.Path.{ap, _∙_}
 use borrow.Author.Needs.{needs}
-use lib.Ieee.{round, ofBits}
+use lib.Ieee.{Float, round, ofBits}
 use Rattle.arith.specs.Printed.{printed}
-use Rattle.sums.specs.Queries.{candidateOf}
+use Rattle.sums.specs.Queries.{agreedOf, candidateOf}
+use Rattle.sums.specs.Outcomes.{outcomeOf}
 use Rattle.sums.proofs.candidates.candidate.Statement.{statement}
 use Rattle.sums.proofs.candidates.candidate.Tie as tie
 
@@ -17,7 +19,12 @@ agreed-requires c κs = search needs
 
 returns : tie.Need-returns
 unfolding candidateOf printed round ofBits
-returns c = rw (← c .before .before .before .pressure .ensures, c .before .before .if1 .taken, ← c .before .temperature .ensures) (c .agreed .ensures)
+returns c =
+    let enough = c .before .before in
+    let asked = enough .before .before .args in
+    let p = enough .before .pressure .result in
+    rw (← enough .before .pressure .ensures, enough .if1 .taken)
+    (c .agreed .ensures ∙ ap (λ (t : Float). outcomeOf (agreedOf (asked .phase) p t (asked .h) (asked .s))) (c .before .temperature .ensures))
 
 returns-2 : tie.Need-returns-2
 unfolding candidateOf printed round ofBits

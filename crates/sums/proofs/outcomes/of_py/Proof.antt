@@ -10,7 +10,7 @@ returns : tie.Need-returns
 unfolding answerPY markedOf
 returns c =
     let place = c .before .before .before in
-    rw (c .temperature .ensures, c .before .equation-of .ensures, ← place .before .before .place-py .ensures, place .phase .given .1) refl
+    rw (c .temperature .ensures, c .before .equation-of .ensures, ← place .before .before .place-py .ensures, place .phase .given .1)
 
 returns-2 : tie.Need-returns-2
 unfolding answerPY

@@ -1,8 +1,8 @@
--- `sums::answers::values` meets its contract: by cases. Assumes nothing.
+-- `reply::answers::values` meets its contract: by cases. Assumes nothing.
 use mathlib.Core.Path.{refl}
 use borrow.Author.Needs.{needs}
-use Rattle.sums.proofs.answers.values.Statement.{statement}
-use Rattle.sums.proofs.answers.values.Tie as tie
+use Rattle.reply.proofs.answers.values.Statement.{statement}
+use Rattle.reply.proofs.answers.values.Tie as tie
 
 enum-known-a : tie.Need-enum-known-a
 enum-known-a c = search needs

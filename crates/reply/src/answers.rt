@@ -4,7 +4,7 @@ use crate::Answer;
 use properties::Value;
 use states::region_of;
 ghost use mathlib.Core.Path.{_≡_};
-ghost use Rattle.sums.specs.Answers.{numberOf, regionOf, markOf, valuesOf};
+ghost use Rattle.reply.specs.Answers.{numberOf, regionOf, markOf, valuesOf};
 
 // The refusal number, 0 if there is none.
 pub fn number(a: Answer) -> u64
