@@ -3,6 +3,7 @@
 
 mod damage;
 mod numbers;
+mod pairs;
 mod papers;
 mod points;
 mod random;
@@ -10,6 +11,7 @@ mod runs;
 
 use crate::outputs::most_bytes;
 use crate::Program;
+use pairs::Side;
 use random::Random;
 
 /// How an input stands to what its program asks for.
@@ -26,10 +28,13 @@ pub enum Manner {
     Oversized,
     /// Bytes without any meaning.
     Random,
+    /// One of the two runs of a pair, in which one model does the same; for `replay` alone.
+    Pair(Side),
 }
 
 impl Manner {
-    pub fn named(name: &str) -> Option<Manner> {
+    /// The manner of that name, if there are such inputs for the program.
+    pub fn named(name: &str, program: Program) -> Option<Manner> {
         match name {
             "whole" => Some(Manner::Whole),
             "damaged" => Some(Manner::Damaged),
@@ -37,6 +42,8 @@ impl Manner {
             "cut" => Some(Manner::Cut),
             "oversized" => Some(Manner::Oversized),
             "random" => Some(Manner::Random),
+            "one" if program == Program::Replay => Some(Manner::Pair(Side::One)),
+            "other" if program == Program::Replay => Some(Manner::Pair(Side::Other)),
             _ => None,
         }
     }
@@ -44,8 +51,8 @@ impl Manner {
 
 /// Input for `program`: `count` is the number of random records (`arithmetic`), of
 /// rows of a sheet (`regions`, `answers`, `quotients`; of a damaged one the most) or of
-/// desk calls (`replay`). The programs `check_values`, `desk_run` and
-/// `plant` read nothing.
+/// desk calls (`replay`; of a run of a pair, of its model's calls). The programs
+/// `check_values`, `desk_run` and `plant` read nothing.
 pub fn of(program: Program, seed: u64, count: usize, manner: Manner) -> Vec<u8> {
     let mut random = Random::new(!seed);
     match manner {
@@ -56,6 +63,7 @@ pub fn of(program: Program, seed: u64, count: usize, manner: Manner) -> Vec<u8> 
         Manner::Cut => damage::cut(whole(program, seed, count), &mut random),
         Manner::Oversized => oversized(program, seed, count, &mut random),
         Manner::Random => damage::meaningless(most_bytes(program), &mut random),
+        Manner::Pair(side) => pairs::records(seed, count, side),
     }
 }
 

@@ -5,7 +5,7 @@
 //!     second outputs NAME < file
 //!
 //! NAME is a program's. MANNER is whole (if none is given), damaged, empty, cut,
-//! oversized or random.
+//! oversized or random; of replay also one or other, the two runs of a pair.
 
 // Printed decimals stay as they are printed.
 #![allow(clippy::approx_constant, clippy::excessive_precision)]
@@ -32,10 +32,10 @@ use std::process::ExitCode;
 const USAGE: &str = "usage: second inputs NAME SEED COUNT [MANNER]
        second outputs NAME
 names: arithmetic check_values regions answers quotients desk_run replay plant
-manners: whole damaged empty cut oversized random";
+manners: whole damaged empty cut oversized random; of replay also one other";
 
 /// The programs that are compared, by the names they are built under.
-#[derive(Clone, Copy)]
+#[derive(Clone, Copy, PartialEq, Eq)]
 pub enum Program {
     Arithmetic,
     CheckValues,
@@ -99,7 +99,8 @@ fn answer(words: &[&str]) -> Option<io::Result<Vec<u8>>> {
 
 fn made(name: &str, seed: &str, count: &str, manner: &str) -> Option<io::Result<Vec<u8>>> {
     let (seed, count) = (seed.parse().ok()?, count.parse().ok()?);
-    Some(Ok(inputs::of(Program::named(name)?, seed, count, Manner::named(manner)?)))
+    let program = Program::named(name)?;
+    Some(Ok(inputs::of(program, seed, count, Manner::named(manner, program)?)))
 }
 
 fn standard_input() -> io::Result<Vec<u8>> {

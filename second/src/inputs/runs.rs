@@ -69,18 +69,19 @@ pub fn past_the_end(seed: u64) -> Vec<u8> {
     run.bytes
 }
 
-struct Run {
-    random: Random,
-    desk: Desk,
-    bytes: Vec<u8>,
+/// A run as it is made, with the desk that it leaves.
+pub struct Run {
+    pub random: Random,
+    pub desk: Desk,
+    pub bytes: Vec<u8>,
 }
 
 impl Run {
-    fn new(seed: u64) -> Run {
+    pub fn new(seed: u64) -> Run {
         Run { random: Random::new(seed), desk: Desk::new(), bytes: Vec::new() }
     }
 
-    fn is_nearly_full(&self) -> bool {
+    pub fn is_nearly_full(&self) -> bool {
         self.bytes.len() + 3000 > most_bytes(Program::Replay)
     }
 
@@ -89,7 +90,7 @@ impl Run {
     }
 
     /// A record, and what it does to the desk.
-    fn call(&mut self, record: [u64; 5]) {
+    pub fn call(&mut self, record: [u64; 5]) {
         self.words(&record);
         let [op, caller, a, b, c] = record;
         match op {
@@ -154,7 +155,7 @@ impl Run {
     }
 
     /// Whatever the ticket's row holds.
-    fn peek_or_withdraw(&mut self, op: u64) {
+    pub fn peek_or_withdraw(&mut self, op: u64) {
         let (caller, ticket) = self.ticket(|_| true);
         let [_, b, c] = self.unused();
         self.call([op, caller, ticket, b, c]);
@@ -167,7 +168,7 @@ impl Run {
         self.call([4, caller, ticket, b, c]);
     }
 
-    fn show(&mut self) {
+    pub fn show(&mut self) {
         let ([caller, b, c], a) = (self.unused(), self.random.pick(&[0, 1, u64::MAX]));
         self.call([7, caller, a, b, c]);
     }
@@ -192,7 +193,7 @@ impl Run {
         }
     }
 
-    fn caller(&mut self) -> u64 {
+    pub fn caller(&mut self) -> u64 {
         match self.random.below(16) {
             0 => self.random.pick(&[8, 9, 1 << 32, u64::MAX]),
             _ => self.random.below(CALLERS) as u64,
@@ -200,7 +201,7 @@ impl Run {
     }
 
     /// A caller and ticket: mostly those of a filled row that is wanted.
-    fn ticket(&mut self, wanted: impl Fn(&Row) -> bool) -> (u64, u64) {
+    pub fn ticket(&mut self, wanted: impl Fn(&Row) -> bool) -> (u64, u64) {
         let rows = self.desk.rows.iter().filter(|row| row.filled && wanted(row));
         let open: Vec<(u64, u64)> = rows.map(|row| (row.caller, row.ticket)).collect();
         if open.is_empty() || self.random.below(8) == 0 {

@@ -321,7 +321,7 @@ mod tests {
     }
 
     /// The lines of a stage: that of its end without losses and that of its end.
-    fn ends<'a>(lines: &'a [String], stage: usize) -> (&'a str, &'a str) {
+    fn ends(lines: &[String], stage: usize) -> (&str, &str) {
         (&lines[2 * stage - 1], &lines[2 * stage])
     }
 
