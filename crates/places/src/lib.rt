@@ -5,6 +5,9 @@ mod limits;
 mod ranges;
 mod tables;
 
+pub use limits::P_TRIPLE;
+pub use limits::T273;
+pub use limits::T1073;
 pub use limits::liquid_end;
 pub use limits::vapour_start;
 pub use ranges::wild;

@@ -3,6 +3,28 @@ ghost use mathlib.Core.Path.{_≡_};
 ghost use lib.Ieee.{le};
 ghost use Rattle.places.specs.Places.{pEnd, liquidEnd, vapourStart};
 
+// The temperatures in K at which the tables turn: where T begins, regions 1 and 3 meet, region 3 ends,
+// regions 2 and 5 meet, and T ends.
+pub const T273: f64 = 273.15;
+
+pub(crate) const T623: f64 = 623.15;
+
+pub(crate) const T863: f64 = 863.15;
+
+pub const T1073: f64 = 1073.15;
+
+pub(crate) const T2273: f64 = 2273.15;
+
+// The pressures in MPa: the house limit of (p,T), the least of the other kinds, the greatest of all, and
+// the greatest of region 5.
+pub(crate) const P_HOUSE: f64 = 0.000001;
+
+pub const P_TRIPLE: f64 = 0.000611213;
+
+pub(crate) const P_MOST: f64 = 100.0;
+
+pub(crate) const P_MOST_5: f64 = 10.0;
+
 // Whether p is at most P = ps(623.15), where the saturation line meets region 3.
 pub(crate) fn saturates(p: f64) -> bool
     ensures { λ r. ⌜ r ≡ le p pEnd ⌝ }
@@ -17,7 +39,7 @@ pub fn liquid_end(p: f64) -> f64
     if saturates(p) {
         saturation::ts(p)
     } else {
-        623.15
+        T623
     }
 }
 

@@ -1,6 +1,15 @@
 // The region tables (specs/Places.antt).
 use crate::Place;
 use crate::Side;
+use crate::limits::P_HOUSE;
+use crate::limits::P_MOST;
+use crate::limits::P_MOST_5;
+use crate::limits::P_TRIPLE;
+use crate::limits::T273;
+use crate::limits::T623;
+use crate::limits::T863;
+use crate::limits::T1073;
+use crate::limits::T2273;
 use crate::limits::saturates;
 use crate::ranges::outside;
 use crate::ranges::wild;
@@ -15,22 +24,22 @@ ghost use Rattle.places.specs.Places.{tableOf, placePT, saturatedOf, den
 fn table(p: f64, t: f64) -> Place
     ensures { λ r. ⌜ r ≡ tableOf p t ⌝ }
 {
-    if t <= 623.15 {
+    if t <= T623 {
         if saturation::ps(t) <= p {
             return Place::Equation(Equation::Region1);
         }
         return Place::Equation(Equation::Region2);
     }
-    if t <= 863.15 {
+    if t <= T863 {
         if p <= saturation::p_b23(t) {
             return Place::Equation(Equation::Region2);
         }
         return Place::Refused(5);
     }
-    if t <= 1073.15 {
+    if t <= T1073 {
         return Place::Equation(Equation::Region2);
     }
-    if p <= 10.0 {
+    if p <= P_MOST_5 {
         return Place::Equation(Equation::Region5);
     }
     Place::Refused(4)
@@ -43,10 +52,10 @@ pub fn place_pt(p: f64, t: f64) -> Place
     if wild(p, t) {
         return Place::Refused(1);
     }
-    if outside(0.000001, 100.0, p) {
+    if outside(P_HOUSE, P_MOST, p) {
         return Place::Refused(2);
     }
-    if outside(273.15, 2273.15, t) {
+    if outside(T273, T2273, t) {
         return Place::Refused(3);
     }
     table(p, t)
@@ -70,7 +79,7 @@ fn saturated(given: Given, p: f64, y: f64) -> Side
 fn dense(given: Given, p: f64, y: f64) -> Side
     ensures { λ r. ⌜ r ≡ denseOf given p y ⌝ }
 {
-    if y <= property(given, Phase::Liquid, p, 623.15) {
+    if y <= property(given, Phase::Liquid, p, T623) {
         return Side::Phase(Phase::Liquid);
     }
     if y >= property(given, Phase::Vapour, p, saturation::t_b23(p)) {
@@ -83,8 +92,8 @@ fn dense(given: Given, p: f64, y: f64) -> Side
 fn ranged(given: Given, p: f64, y: f64) -> Side
     ensures { λ r. ⌜ r ≡ rangedOf given p y ⌝ }
 {
-    let least = property(given, Phase::Liquid, p, 273.15);
-    let most = property(given, Phase::Vapour, p, 1073.15);
+    let least = property(given, Phase::Liquid, p, T273);
+    let most = property(given, Phase::Vapour, p, T1073);
     if outside(least, most, y) {
         return Side::Refused(6);
     }
@@ -101,7 +110,7 @@ pub fn place_py(given: Given, p: f64, y: f64) -> Side
     if wild(p, y) {
         return Side::Refused(1);
     }
-    if outside(0.000611213, 100.0, p) {
+    if outside(P_TRIPLE, P_MOST, p) {
         return Side::Refused(2);
     }
     ranged(given, p, y)

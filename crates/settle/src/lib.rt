@@ -62,12 +62,12 @@ fn first_bracket(phase: Phase, p: f64) -> Bracket
 {
     match phase {
         Phase::Liquid => Bracket {
-            lo: 273.15,
+            lo: places::T273,
             hi: places::liquid_end(p),
         },
         Phase::Vapour => Bracket {
             lo: places::vapour_start(p),
-            hi: 1073.15,
+            hi: places::T1073,
         },
     }
 }

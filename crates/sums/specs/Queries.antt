@@ -59,10 +59,17 @@ abbrev pub isIn : Phase → Place → Bool
 isIn phase (Place.Equation equation) = eqb (regionOf equation) (regionOf (equationOf phase))
 isIn phase (Place.Refused n) = false
 
+-- how far forward h and s of a candidate may lie from those asked
+abbrev pub candidateH : Float
+candidateH = printed false 2 (less 1)
+
+abbrev pub candidateS : Float
+candidateS = printed false 5 (less 4)
+
 -- the table agrees, and forward h and s are within 0.2 and 0.0005 of those asked
 unfoldable pub agrees : Phase → Float → Float → Float → Float → Bool
 agrees phase p t h s =
-    isIn phase (placePT p t) && bothNear (printed false 2 (less 1)) (printed false 5 (less 4)) (stateAt (equationOf phase) p t) h s
+    isIn phase (placePT p t) && bothNear candidateH candidateS (stateAt (equationOf phase) p t) h s
 
 -- the state at p and T, verified by both h and s; refused by 7 where it does not agree
 unfoldable pub agreedOf : Phase → Float → Float → Float → Float → Answer

@@ -1,6 +1,7 @@
 // The candidates of an (h,s) query (specs/Queries.antt).
 use crate::outcomes::Outcome;
 use crate::outcomes::temperature;
+use places::P_TRIPLE;
 use places::Place;
 use places::place_pt;
 use states::Given;
@@ -12,6 +13,11 @@ use states::region_of;
 ghost use mathlib.Core.Path.{_≡_};
 ghost use Rattle.sums.specs.Queries.{pressureOf, isIn, agreedOf, candidateOf};
 ghost use Rattle.sums.specs.Outcomes.{outcomeOf};
+
+// How far forward h in kJ/kg and s in kJ/(kg K) of a candidate may lie from those asked.
+const H_MARGIN: f64 = 0.2;
+
+const S_MARGIN: f64 = 0.0005;
 
 // p in MPa by the backward equation of a phase for h in kJ/kg and s in kJ/(kg K).
 fn pressure(phase: Phase, h: f64, s: f64) -> f64
@@ -40,7 +46,7 @@ fn agreed(phase: Phase, p: f64, t: f64, h: f64, s: f64) -> Outcome
     if is_in(phase, place_pt(p, t)) {
         let a = carried(phase, p, t, h, s);
         let unrooted = a.worked.unrooted;
-        if both_near(0.2, 0.0005, unrooted, h, s) {
+        if both_near(H_MARGIN, S_MARGIN, unrooted, h, s) {
             return Outcome::Single(a);
         }
         return Outcome::Refused(7);
@@ -53,7 +59,7 @@ pub(crate) fn candidate(phase: Phase, h: f64, s: f64) -> Outcome
     ensures { λ r. ⌜ r ≡ outcomeOf (candidateOf phase h s) ⌝ }
 {
     let p = pressure(phase, h, s);
-    if p >= 0.000611213 {
+    if p >= P_TRIPLE {
         let t = temperature(Given::Enthalpy, phase, p, h);
         return agreed(phase, p, t, h, s);
     }
