@@ -9,6 +9,10 @@ use Rattle.states.specs.Marks.{verifiedOf}
 use Rattle.states.specs.declared.Given.{Given}
 use Rattle.states.specs.declared.Wet.{Wet}
 
+-- the quality of a wet y between y' of saturated liquid and y'' of saturated vapour
+abbrev pub quality : Float → Float → Float → Float
+quality y y' y'' = (y ⊖ y') ⊘ (y'' ⊖ y')
+
 -- By 004: of the saturated liquid ' and vapour '' at Ts(p), each property is a' + x·(a'' - a').
 abbrev pub mixed : Float → Float → Float → Float
 mixed x a' a'' = a' ⊕ x ⊗ (a'' ⊖ a')
@@ -17,7 +21,7 @@ unfoldable pub mixtureOf : Given → Float → Float → Float → State → Sta
 mixtureOf given p y t liquid vapour =
     let y' = givenOf given (liquid .h) (liquid .s) in
     let y'' = givenOf given (vapour .h) (vapour .s) in
-    let x = (y ⊖ y') ⊘ (y'' ⊖ y') in
+    let x = quality y y' y'' in
     let h = mixed x (liquid .h) (vapour .h) in
     let s = mixed x (liquid .s) (vapour .s) in
     record {

@@ -8,7 +8,7 @@ use properties::Unrooted;
 use vapour::Region2;
 ghost use mathlib.Core.Path.{_≡_};
 ghost use Rattle.properties.specs.Properties.{rootedOf};
-ghost use Rattle.states.specs.Mixing.{mixed, mixtureOf, wetOf};
+ghost use Rattle.states.specs.Mixing.{quality, mixed, mixtureOf, wetOf};
 
 // a' + x·(a'' - a').
 fn mixed(x: f64, liquid: f64, vapour: f64) -> f64
@@ -17,13 +17,20 @@ fn mixed(x: f64, liquid: f64, vapour: f64) -> f64
     liquid + x * (vapour - liquid)
 }
 
+// The quality x = (y - y') / (y'' - y').
+fn quality(y: f64, least: f64, most: f64) -> f64
+    ensures { λ r. ⌜ r ≡ quality y least most ⌝ }
+{
+    (y - least) / (most - least)
+}
+
 // The wet state at p and its Ts that has the h or s asked.
 fn mixture(given: Given, p: f64, y: f64, t: f64, liquid: Unrooted, vapour: Unrooted) -> Wet
     ensures { λ r. ⌜ r ≡ mixtureOf given p y t (rootedOf liquid) (rootedOf vapour) ⌝ }
 {
     let least = given_of(given, liquid.h, liquid.s);
     let most = given_of(given, vapour.h, vapour.s);
-    let x = (y - least) / (most - least);
+    let x = quality(y, least, most);
     let h = mixed(x, liquid.h, vapour.h);
     let s = mixed(x, liquid.s, vapour.s);
     Wet {

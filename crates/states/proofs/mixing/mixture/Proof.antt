@@ -1,5 +1,4 @@
 -- `states::mixing::mixture` meets its contract: each property is mixed by the one quality. Assumes nothing.
-use mathlib.Core.Path.{refl}
 use borrow.Author.Needs.{needs}
 use Rattle.properties.specs.Properties.{rootedOf}
 use Rattle.states.specs.Mixing.{mixtureOf}
@@ -11,6 +10,9 @@ given-of-requires c κs = search needs
 
 given-of-requires-2 : tie.Need-given-of-requires-2
 given-of-requires-2 c κs = search needs
+
+quality-requires : tie.Need-quality-requires
+quality-requires c κs = search needs
 
 mixed-requires : tie.Need-mixed-requires
 mixed-requires c κs = search needs
@@ -30,15 +32,19 @@ verified-requires c κs = search needs
 returns : tie.Need-returns
 unfolding mixtureOf rootedOf
 returns c =
+    let u = c .before in
+    let s = u .before .before in
+    let x = s .before .before in
     rw (
       c .verified .ensures,
-      c .before .mixed4 .ensures,
-      c .before .before .mixed3 .ensures,
-      c .before .before .before .mixed2 .ensures,
-      c .before .before .before .before .mixed .ensures,
-      c .before .before .before .before .before .given-of2 .ensures,
-      c .before .before .before .before .before .before .given-of .ensures,
-    ) refl
+      u .mixed4 .ensures,
+      u .before .mixed3 .ensures,
+      s .mixed2 .ensures,
+      s .before .mixed .ensures,
+      x .quality .ensures,
+      x .before .given-of2 .ensures,
+      x .before .before .given-of .ensures,
+    )
 
 pub mixture-spec : {M : Type 1} → statement M
 mixture-spec =
@@ -46,6 +52,7 @@ mixture-spec =
     (tie.spec
     given-of-requires
     given-of-requires-2
+    quality-requires
     mixed-requires
     mixed-requires-2
     mixed-requires-3

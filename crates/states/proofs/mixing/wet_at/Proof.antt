@@ -1,5 +1,4 @@
 -- `states::mixing::wet_at` meets its contract: both saturated states are those of p and t, of which the roots are not taken. Assumes nothing.
-use mathlib.Core.Path.{refl}
 use borrow.Author.Needs.{needs}
 use Rattle.liquid.specs.Region1.{state1, stateOf1}
 use Rattle.vapour.specs.Region2.{state2, stateOf2}
@@ -18,7 +17,7 @@ returns c =
       vapour .before .gamma2 .ensures,
       liquid .unrooted-of .ensures,
       liquid .before .gamma .ensures,
-    ) refl
+    )
 
 pub wet-at-spec : {M : Type 1} → statement M
 wet-at-spec =
