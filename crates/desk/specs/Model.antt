@@ -1,5 +1,5 @@
 -- The desk by its rules: for each call the answer and the desk that it leaves. Definitions only.
--- Of the settling layer this knows only what it publishes: a query judged, one halving, the state at the end.
+-- Of the settling layer this knows only what it publishes: a query judged, one halving, the state at the end, and how a row names a phase.
 use Prim.Native.Nat.{ℕ, _+_, _%_}
 use mathlib.Core.Bool.{true, cond, _&&_}
 use lib.Dec.{ltb}

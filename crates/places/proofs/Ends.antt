@@ -1,6 +1,6 @@
 -- The end of the saturation line against region 3: P = ps(623.15), worked out, is 16.529164252604478 MPa. Assumes nothing.
 use mathlib.Core.Path.{_≡_, refl}
-use lib.Ieee.{binary64, round, ofBits, ofInt, add, sub, mul, div, neg, size, odd}
+use lib.Ieee.{binary64, round, ofBits, ofInt, add, sub, mul, div, neg}
 use Rattle.arith.specs.Printed.{printed}
 use Rattle.arith.specs.Root.{floorRoot, nearRoot, rootUnits, rootOf}
 use Rattle.saturation.specs.Saturation.{psOf}

@@ -1,6 +1,6 @@
 -- Where a query lies: the region table of (p,T), and the regions of (p,h) and (p,s). Refusals come in the order of the refusal table. Definitions only.
 -- A comparison with NaN is false.
-use mathlib.Core.Bool.{Bool, true, false, cond, not, _||_}
+use mathlib.Core.Bool.{Bool, false, cond, not, _||_}
 use lib.Ieee.{Float, lt, le}
 use Rattle.arith.specs.F64.{f64}
 use Rattle.arith.specs.Printed.{less, printed}

@@ -1,5 +1,5 @@
-// Where a query lies: the region of (p,T), of (p,h) and of (p,s), or the refusal; and where region 1
-// ends and region 2 begins at p. Every call takes every number; what it answers is said in specs/.
+// Where a query lies: the equation of (p,T), the side of (p,h) and (p,s), or the refusal; and where
+// region 1 ends and region 2 begins at p. Every call takes every number; what it answers is said in specs/.
 // Units: p in MPa, T in K, h in kJ/kg, s in kJ/(kg K).
 mod limits;
 mod ranges;

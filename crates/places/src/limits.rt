@@ -1,4 +1,4 @@
-// Where region 1 ends and region 2 begins at p (specs/Places.antt).
+// The limits of the tables, and where region 1 ends and region 2 begins at p (specs/Places.antt).
 ghost use mathlib.Core.Path.{_≡_};
 ghost use lib.Ieee.{le};
 ghost use Rattle.places.specs.Places.{pEnd, liquidEnd, vapourStart};

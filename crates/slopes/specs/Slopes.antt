@@ -1,5 +1,5 @@
 -- Derivatives of a single-phase state, by 001: for properties z, x, y among p, T, v, u, h, s, g, f, numbered 1 to 8, (∂z/∂x) at constant y is
--- (z_p·y_T - z_T·y_p) / (x_p·y_T - x_T·y_p) for an equation in p and T, and the same with its own two variables for any other. There p is in kPa, so that v·p
+-- (z_p·y_T - z_T·y_p) / (x_p·y_T - x_T·y_p) for an equation in p and T, and the same with its own two variables for any other. p is taken in kPa, so that v·p
 -- is in kJ/kg. Definitions only.
 use Prim.Native.Nat.{ℕ, _-_}
 use mathlib.Core.Bool.{Bool, cond, not, _&&_, _||_}
@@ -54,7 +54,7 @@ slopesPT p t a r = let P = f64 1000 ⊗ p in record { first = byP P t a r; secon
 
 -- ---- any equation
 
--- property n's derivative in a row; another number has none
+-- property n's derivative in a row, n from 1 to 8
 abbrev pub slope : Row → ℕ → Float
 slope r n = getD (r .p ∷ r .t ∷ r .v ∷ r .u ∷ r .h ∷ r .s ∷ r .g ∷ r .f ∷ []) (n - 1) nan
 

@@ -4,6 +4,8 @@ use mathlib.Core.Path.{sym, _∙_}
 use Rattle.arith.proofs.Only.{Only}
 use Rattle.states.proofs.equations.equation_of.Kinds as equation-of-kinds
 use Rattle.states.proofs.equations.equation_of.Reads as equation-of
+use Rattle.states.proofs.equations.is_of.Kinds as is-of-kinds
+use Rattle.states.proofs.equations.is_of.Reads as is-of
 use Rattle.states.proofs.equations.region_of.Kinds as region-of-kinds
 use Rattle.states.proofs.equations.region_of.Reads as region-of
 use Rattle.states.proofs.marks.carried.Kinds as carried-kinds
@@ -52,3 +54,6 @@ state-at-only κs a x y s t p q = p ∙ sym q
 
 pub slopes-at-only : Only 0 slopes-at-kinds.ps slopes-at-kinds.r slopes-at.Post
 slopes-at-only κs a x y s t p q = p ∙ sym q
+
+pub is-of-only : Only 0 is-of-kinds.ps is-of-kinds.r is-of.Post
+is-of-only κs a x y s t p q = p ∙ sym q

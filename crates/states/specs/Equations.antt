@@ -1,5 +1,6 @@
 -- The basic equations by the numbers of their regions, and the equations of the two phases. Definitions only.
 use Prim.Native.Nat.{ℕ}
+use mathlib.Core.Bool.{Bool, true, false}
 use Rattle.states.specs.declared.Equation.{Equation}
 use Rattle.states.specs.declared.Equation.the-variants.{Region1, Region2, Region5}
 use Rattle.states.specs.declared.Phase.{Phase}
@@ -9,6 +10,15 @@ abbrev pub regionOf : Equation → ℕ
 regionOf Region1 = 1
 regionOf Region2 = 2
 regionOf Region5 = 5
+
+-- whether an equation is that of a phase
+abbrev pub isOf : Equation → Phase → Bool
+isOf Region1 Liquid = true
+isOf Region1 Vapour = false
+isOf Region2 Liquid = false
+isOf Region2 Vapour = true
+isOf Region5 Liquid = false
+isOf Region5 Vapour = false
 
 -- the phases that backward equations reach
 abbrev pub equationOf : Phase → Equation

@@ -13,7 +13,7 @@ use Rattle.states.specs.declared.Wet.{Wet}
 abbrev pub quality : Float → Float → Float → Float
 quality y y' y'' = (y ⊖ y') ⊘ (y'' ⊖ y')
 
--- By 004: of the saturated liquid ' and vapour '' at Ts(p), each property is a' + x·(a'' - a').
+-- By 004: of the saturated liquid ' and vapour '', each property is a' + x·(a'' - a').
 abbrev pub mixed : Float → Float → Float → Float
 mixed x a' a'' = a' ⊕ x ⊗ (a'' ⊖ a')
 

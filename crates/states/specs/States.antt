@@ -3,7 +3,6 @@ use lib.Ieee.{Float}
 use Rattle.properties.specs.Properties.{rootedOf}
 use Rattle.properties.specs.declared.State.{State}
 use Rattle.properties.specs.declared.Unrooted.{Unrooted}
-use Rattle.properties.specs.declared.Response.{Response}
 use Rattle.liquid.specs.Region1.{gamma1, unrootedOf1, responseOf1}
 use Rattle.vapour.specs.Region2.{gamma2, unrootedOf2, responseOf2}
 use Rattle.vapour.specs.Region5.{gamma5, unrootedOf5, responseOf5}
@@ -27,15 +26,11 @@ unrootedAt Region5 p t = unrootedOf5 p t (gamma5 p t)
 unfoldable pub stateAt : Equation → Float → Float → State
 stateAt equation p t = rootedOf (unrootedAt equation p t)
 
--- α and κ of 001
-unfoldable pub responseAt : Equation → Float → Float → Response
-responseAt Region1 p t = responseOf1 p t (gamma1 p t)
-responseAt Region2 p t = responseOf2 p t (gamma2 p t)
-responseAt Region5 p t = responseOf5 p t (gamma5 p t)
-
 -- the two rows of slopes: all three equations are in p and T
 unfoldable pub slopesAt : Equation → Float → Float → Slopes
-slopesAt equation p t = slopesPT p t (unrootedAt equation p t) (responseAt equation p t)
+slopesAt Region1 p t = let g = gamma1 p t in slopesPT p t (unrootedOf1 p t g) (responseOf1 p t g)
+slopesAt Region2 p t = let g = gamma2 p t in slopesPT p t (unrootedOf2 p t g) (responseOf2 p t g)
+slopesAt Region5 p t = let g = gamma5 p t in slopesPT p t (unrootedOf5 p t g) (responseOf5 p t g)
 
 -- what is worked at once
 unfoldable pub workedAt : Equation → Float → Float → Worked

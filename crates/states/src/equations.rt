@@ -2,7 +2,7 @@
 use crate::Equation;
 use crate::Phase;
 ghost use mathlib.Core.Path.{_≡_};
-ghost use Rattle.states.specs.Equations.{regionOf, equationOf};
+ghost use Rattle.states.specs.Equations.{regionOf, isOf, equationOf};
 
 // The number of an equation's region.
 pub fn region_of(equation: Equation) -> u64
@@ -12,6 +12,24 @@ pub fn region_of(equation: Equation) -> u64
         Equation::Region1 => 1,
         Equation::Region2 => 2,
         Equation::Region5 => 5,
+    }
+}
+
+// Whether an equation is that of a phase.
+pub fn is_of(equation: Equation, phase: Phase) -> bool
+    ensures { λ r. ⌜ r ≡ isOf equation phase ⌝ }
+{
+    match phase {
+        Phase::Liquid => match equation {
+            Equation::Region1 => true,
+            Equation::Region2 => false,
+            Equation::Region5 => false,
+        },
+        Phase::Vapour => match equation {
+            Equation::Region1 => false,
+            Equation::Region2 => true,
+            Equation::Region5 => false,
+        },
     }
 }
 

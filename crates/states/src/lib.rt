@@ -8,6 +8,7 @@ mod mixing;
 mod worked;
 
 pub use equations::equation_of;
+pub use equations::is_of;
 pub use equations::region_of;
 pub use marks::both_near;
 pub use marks::carried;

@@ -24,7 +24,7 @@ fn quality(y: f64, least: f64, most: f64) -> f64
     (y - least) / (most - least)
 }
 
-// The wet state at p and its Ts that has the h or s asked.
+// The wet state at p and t that has the h or s asked.
 fn mixture(given: Given, p: f64, y: f64, t: f64, liquid: Unrooted, vapour: Unrooted) -> Wet
     ensures { λ r. ⌜ r ≡ mixtureOf given p y t (rootedOf liquid) (rootedOf vapour) ⌝ }
 {
@@ -45,7 +45,7 @@ fn mixture(given: Given, p: f64, y: f64, t: f64, liquid: Unrooted, vapour: Unroo
     }
 }
 
-// The wet state at p in MPa and its Ts in K that has the h in kJ/kg or s in kJ/(kg K) asked.
+// The wet state at p in MPa and t in K, the Ts(p) of its caller, that has the h in kJ/kg or s in kJ/(kg K) asked.
 pub fn wet_at(given: Given, p: f64, y: f64, t: f64) -> Wet
     ensures { λ r. ⌜ r ≡ wetOf given p y t ⌝ }
 {

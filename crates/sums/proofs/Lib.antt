@@ -1,3 +1,4 @@
 pub mod Only
 pub mod Forward
 pub mod Carried
+pub mod Placed

@@ -8,7 +8,7 @@ use Rattle.backward.specs.T1ph.{t1ph}
 use Rattle.backward.specs.T1ps.{t1ps}
 use Rattle.backward.specs.P1hs.{p1hs}
 use Rattle.backward.specs.Region2.{t2ph, t2ps, p2hs}
-use Rattle.states.specs.Equations.{regionOf, equationOf}
+use Rattle.states.specs.Equations.{isOf, equationOf}
 use Rattle.states.specs.States.{stateAt, givenOf}
 use Rattle.states.specs.Marks.{bothNear, singleOf, markedOf, markedBothOf}
 use Rattle.states.specs.Mixing.{wetOf}
@@ -56,7 +56,7 @@ pressureOf Vapour h s = p2hs h s
 
 -- the (p,T) table gives that phase's region without refusal
 abbrev pub isIn : Phase → Place → Bool
-isIn phase (Place.Equation equation) = eqb (regionOf equation) (regionOf (equationOf phase))
+isIn phase (Place.Equation equation) = isOf equation phase
 isIn phase (Place.Refused n) = false
 
 -- how far forward h and s of a candidate may lie from those asked

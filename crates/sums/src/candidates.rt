@@ -8,8 +8,7 @@ use states::Given;
 use states::Phase;
 use states::both_near;
 use states::carried;
-use states::equation_of;
-use states::region_of;
+use states::is_of;
 ghost use mathlib.Core.Path.{_≡_};
 ghost use Rattle.sums.specs.Queries.{pressureOf, isIn, agreedOf, candidateOf};
 ghost use Rattle.sums.specs.Outcomes.{outcomeOf};
@@ -34,7 +33,7 @@ fn is_in(phase: Phase, place: Place) -> bool
     ensures { λ r. ⌜ r ≡ isIn phase place ⌝ }
 {
     match place {
-        Place::Equation(equation) => region_of(equation) == region_of(equation_of(phase)),
+        Place::Equation(equation) => is_of(equation, phase),
         Place::Refused(_) => false,
     }
 }

@@ -1,4 +1,4 @@
--- `settle::first_bracket` meets its contract: the ends that are literals are the printed temperatures. Assumes nothing.
+-- `settle::first_bracket` meets its contract: the ends that are constants are the printed temperatures. Assumes nothing.
 use mathlib.Core.Path.{refl}
 use lib.Ieee.{round, ofBits}
 use borrow.Author.Needs.{needs}

@@ -1,17 +1,17 @@
 -- `states::worked::worked_at` meets its contract: properties and slopes are worked from the same γ. Assumes nothing.
 use borrow.Author.Needs.{needs}
-use Rattle.states.specs.States.{unrootedAt, responseAt, slopesAt, workedAt}
+use Rattle.states.specs.States.{unrootedAt, slopesAt, workedAt}
 use Rattle.states.proofs.worked.worked_at.Statement.{statement}
 use Rattle.states.proofs.worked.worked_at.Tie as tie
 
 returns : tie.Need-returns
-unfolding workedAt slopesAt unrootedAt responseAt
+unfolding workedAt slopesAt unrootedAt
 returns c =
     let γ = c .before .before in
     rw (c .slopes-1 .ensures, c .before .unrooted-of .ensures, γ .gamma .ensures, γ .before .enum-told .given .1)
 
 returns-2 : tie.Need-returns-2
-unfolding workedAt slopesAt unrootedAt responseAt
+unfolding workedAt slopesAt unrootedAt
 returns-2 c =
     let γ = c .before .before in
     rw (c .slopes-2 .ensures, c .before .unrooted-of2 .ensures, γ .gamma2 .ensures, γ .before .enum-told2 .given .1)

@@ -5,14 +5,10 @@ use Rattle.sums.proofs.candidates.is_in.Statement.{statement}
 use Rattle.sums.proofs.candidates.is_in.Tie as tie
 
 returns : tie.Need-returns
-returns c =
-    let known = c .before .before .before in
-    rw (c .region-of2 .ensures, c .before .equation-of .ensures, c .before .before .region-of .ensures, known .before .place .given .1) refl
+returns c = rw (c .is-of .ensures, c .before .before .place .given .1) refl
 
 returns-2 : tie.Need-returns-2
 returns-2 c = rw (c .enum-told .given .1) refl
 
 pub is-in-spec : {M : Type 1} → statement M
-is-in-spec =
-    tie.close
-    (tie.spec (λ c. search needs) (λ c κs. search needs) (λ c κs. search needs) (λ c κs. search needs) (λ c. search needs) returns returns-2)
+is-in-spec = tie.close (tie.spec (λ c. search needs) (λ c κs. search needs) (λ c. search needs) returns returns-2)

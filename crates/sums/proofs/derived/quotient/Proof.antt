@@ -2,7 +2,6 @@
 -- Assumes nothing.
 use mathlib.Core.Path.{sym, _∙_}
 use borrow.Author.Needs.{needs}
-use borrow.Author.Tests.{ne-eqb}
 use Rattle.sums.specs.Queries.{answerOf}
 use Rattle.sums.specs.Quotients.{quotientOf}
 use Rattle.sums.proofs.Forward.{forward-hs, forward}

@@ -1,5 +1,4 @@
 -- `sums::queries::from_ph` meets its contract: the state is worked where it was found. Assumes nothing.
-use mathlib.Core.Path.{_∙_}
 use borrow.Author.Needs.{needs}
 use Rattle.sums.proofs.Carried.{py-same}
 use Rattle.sums.proofs.queries.from_ph.Statement.{statement}

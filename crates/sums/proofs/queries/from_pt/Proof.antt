@@ -1,5 +1,4 @@
 -- `sums::queries::from_pt` meets its contract: the state is worked where it was found. Assumes nothing.
-use mathlib.Core.Path.{_∙_}
 use borrow.Author.Needs.{needs}
 use Rattle.sums.proofs.Carried.{pt-same}
 use Rattle.sums.proofs.queries.from_pt.Statement.{statement}

@@ -1,0 +1,30 @@
+-- What a place says in the paper's words: its number and region for each case. Definitions only.
+use Prim.Native.Nat.{ℕ}
+use Rattle.states.specs.Equations as Equations
+use Rattle.states.specs.Equations.{equationOf}
+use Rattle.places.specs.declared.Place.{Place}
+use Rattle.places.specs.declared.Place.the-variants as Place
+use Rattle.places.specs.declared.Side.{Side}
+use Rattle.places.specs.declared.Side.the-variants as Side
+
+-- ---- of (p,T): the refusal, 0 if there is none; the region, 0 if refused
+
+abbrev pub numberOf : Place → ℕ
+numberOf (Place.Equation equation) = 0
+numberOf (Place.Refused n) = n
+
+abbrev pub regionOf : Place → ℕ
+regionOf (Place.Equation equation) = Equations.regionOf equation
+regionOf (Place.Refused n) = 0
+
+-- ---- of (p,h) or (p,s): the same; a wet place is of region 4
+
+abbrev pub sideNumberOf : Side → ℕ
+sideNumberOf (Side.Phase phase) = 0
+sideNumberOf (Side.Wet t) = 0
+sideNumberOf (Side.Refused n) = n
+
+abbrev pub sideRegionOf : Side → ℕ
+sideRegionOf (Side.Phase phase) = Equations.regionOf (equationOf phase)
+sideRegionOf (Side.Wet t) = 4
+sideRegionOf (Side.Refused n) = 0
