@@ -5,6 +5,8 @@ pub mod Kept
 pub mod Fair
 pub mod Own
 pub mod Posted
+pub mod Once
 pub mod Same
 pub mod Received
+pub mod Rows
 pub mod Demand
