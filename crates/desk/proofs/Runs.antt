@@ -1,4 +1,5 @@
 -- The theorems on runs, by theme; `Demand` states them, in the words of specs/Runs.antt.
+pub mod Rows
 pub mod Round
 pub mod Posts
 pub mod Kept
@@ -8,5 +9,4 @@ pub mod Posted
 pub mod Once
 pub mod Same
 pub mod Received
-pub mod Rows
 pub mod Demand

@@ -20,16 +20,16 @@ use Rattle.desk.specs.declared.Open.{Open}
 use Rattle.desk.specs.declared.Open.the-variants.{At, Closed}
 use Rattle.ledger.specs.Rows.{due, most, row, counted, held, ofCaller, vacant, tally, lowest, between, sound}
 use Rattle.desk.specs.Answers.{numberOf, whole, kelvin, state, valuesOf, Tells}
-use Rattle.desk.specs.Model.{newDesk, answers, refuse, queryOf, bracketOf, settle, fresh, seated, admitted, judgedPost, postOf, next, turnedAt, turnOf, openOf, emptied, peekAt, collectAt, withdrawAt, peekOf, collectOf, withdrawOf}
+use Rattle.desk.specs.Model.{newDesk, answers, refuse, queryOf, settle, fresh, seated, admitted, judgedPost, postOf, next, turnedAt, turnOf, openOf, emptied, peekAt, collectAt, withdrawAt, peekOf, collectOf, withdrawOf}
 use Rattle.ledger.proofs.Good.{good-sound, sound-good, free-row}
 use Rattle.desk.specs.Runs.{Call, post, turn, peek, collect, withdraw, step, afterFrom, after, answerTo, Entry, historyFrom, history, ownCalls, ownPart, enough, turns, OpenFor, Patient, CollectsGive, asked, HalvedTo, SettledTo, Origin, goesTo, received, HalvedOnce}
+use Rattle.desk.proofs.Runs.Rows.{peek-row, collect-row, early-row, withdraw-row, turn-row}
 use Rattle.desk.proofs.Runs.Kept.{good-new, good-step}
 use Rattle.desk.proofs.Runs.Own.{followed, peeked, collected, peek-at, collect-at, collect-ready}
 use Rattle.desk.proofs.Runs.Posted.{open-posted, patient-collects}
 use Rattle.desk.proofs.Runs.Once.{one-post}
 use Rattle.desk.proofs.Runs.Same.{same-answers}
 use Rattle.desk.proofs.Runs.Received.{peek-received}
-use Rattle.desk.proofs.Runs.Rows.{peek-row, collect-row, early-row, withdraw-row, turn-row}
 
 -- Two runs from a new desk in which one model posts, collects and withdraws the same things in the same order, both patient: all its answers are the same
 -- in both, tickets included, and each of its collects that names an open ticket gives a state.
@@ -170,7 +170,7 @@ refused-keeps d (collect c t) n = go (openOf d c t)
 
     go : (o : Open) → collectAt d o .answer ≡ Refused n → collectAt d o .desk ≡ d
     go (Closed m) e = refl
-    go (At i) e = done i (ltb (row d i .halvings) due) (settle (queryOf (row d i)) (bracketOf (row d i))) e
+    go (At i) e = done i (ltb (row d i .halvings) due) _ e
 refused-keeps d (withdraw c t) n = go (openOf d c t)
   where
     go : (o : Open) → withdrawAt d o .answer ≡ Refused n → withdrawAt d o .desk ≡ d

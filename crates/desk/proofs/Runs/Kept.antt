@@ -18,8 +18,8 @@ use Rattle.desk.specs.declared.Open.{Open}
 use Rattle.desk.specs.declared.Open.the-variants.{At, Closed}
 use Rattle.ledger.specs.Search.{bit}
 use Rattle.ledger.specs.Rows.{due, most, blank, row, counted, held, ofCaller, vacant, unfinished, tally, lowest, put}
-use Rattle.desk.specs.Model.{newDesk, answers, refuse, queryOf, bracketOf, settle, fresh, halvedRow, next, past, turnedAt, turnOf, openOf, emptied, peekAt, collectAt, withdrawAt, peekOf, collectOf, withdrawOf}
-use Rattle.ledger.proofs.Search.{not-some, count-zero, counted-once}
+use Rattle.desk.specs.Model.{newDesk, answers, refuse, fresh, halvedRow, next, past, turnedAt, turnOf, openOf, emptied, peekAt, collectAt, withdrawAt, peekOf, collectOf, withdrawOf}
+use Rattle.ledger.proofs.Search.{not-some, count-zero}
 use Rattle.ledger.proofs.Tests.{of-is, of-empty, held-is, held-empty, unfinished-is, Right}
 use Rattle.desk.proofs.Halved.{of-halved, held-halved}
 use Rattle.ledger.proofs.Changes.{row-each, tally-put, counts-each, onward-true}
@@ -104,11 +104,6 @@ was-given d g c t i l e =
     let s = g .rows .each i l (o .0) .given in
     let q : counted d (row d i .caller) ≡ counted d c = ap (λ (x : ℕ). counted d x) (o .1) in
     omega arith
-
--- and has one row
-pub one-row : (d : Desk) → Good d → (c t i j : ℕ) → i < 32 → j < 32 → held c t (row d i) ≡ true → held c t (row d j) ≡ true → i ≡ j
-unfolding tally
-one-row d g c t i j = counted-once (λ k. held c t (row d k)) 32 i j (g .rows .once c t)
 
 pub not-yet : (d : Desk) → Good d → (c t : ℕ) → counted d c ≤ t → tally (held c t) d ≡ 0
 unfolding tally
@@ -199,7 +194,7 @@ effect d g (collect c t) = go (openOf d c t) refl
 
     go : (o : Open) → openOf d c t ≡ o → Effect d (collect c t) (collectAt d o .desk)
     go (Closed n) e = kept (collect c t) refl
-    go (At i) e = done i (open-seat d c t i e) (ltb (row d i .halvings) due) (settle (queryOf (row d i)) (bracketOf (row d i)))
+    go (At i) e = done i (open-seat d c t i e) (ltb (row d i .halvings) due) _
 effect d g (withdraw c t) = go (openOf d c t) refl
   where
     go : (o : Open) → openOf d c t ≡ o → Effect d (withdraw c t) (withdrawAt d o .desk)

@@ -19,9 +19,10 @@ use Rattle.ledger.proofs.Tests.{held-is, held-empty}
 use Rattle.desk.proofs.Halved.{held-halved}
 use Rattle.ledger.proofs.Changes.{row-each, counts-each}
 use Rattle.ledger.proofs.Good.{Good}
+use Rattle.desk.proofs.Tickets.{one-row}
 use Rattle.desk.specs.Runs.{Call, post, peek, step, afterFrom, after, answerTo, goesTo, received}
 use Rattle.desk.proofs.Runs.Posts.{Job, Granted, seats}
-use Rattle.desk.proofs.Runs.Kept.{Effect, kept, idled, turned, seated, freed, effect, good-step, one-row, held-fresh, seat-free, counts-wide, was-given}
+use Rattle.desk.proofs.Runs.Kept.{Effect, kept, idled, turned, seated, freed, effect, good-step, held-fresh, seat-free, counts-wide, was-given}
 use Rattle.desk.proofs.Runs.Own.{good-from, good-after, after-append, got, peeked}
 
 module _ (c t : ℕ) where

@@ -1,11 +1,11 @@
 -- On a sound desk, whether a run led to it or not, the calls that name a ticket and the turn that comes to its row go by what that row holds. Assumes nothing.
-use mathlib.Core.Path.{_≡_, refl, ap, sym, _∙_}
-use mathlib.Core.Bool.{Bool, true, false, _&&_}
+use mathlib.Core.Path.{_≡_, refl, ap, _∙_}
+use mathlib.Core.Bool.{true}
 use mathlib.Core.List.{[], _∷_}
 use Prim.Native.Nat.{ℕ, _+_, _%_, _≤_, _<_}
 use native.Mathlib.Omega.{arith}
 use lib.Dec.{ltb}
-use borrow.Author.Tests.{le-ltb, lt-ltb, ltb-true}
+use borrow.Author.Tests.{le-ltb, lt-ltb}
 use Rattle.ledger.specs.declared.Desk.{Desk}
 use Rattle.desk.specs.declared.Open.{Open}
 use Rattle.desk.specs.declared.Open.the-variants.{At}
@@ -14,11 +14,11 @@ use Rattle.desk.specs.Answers.{whole, kelvin, state, Tells}
 use Rattle.desk.specs.Model.{queryOf, settle, halvedRow, next, past, turnOf, openOf, emptied, peekAt, collectAt, withdrawAt, peekOf, collectOf, withdrawOf}
 use Rattle.ledger.proofs.Search.{and-true}
 use Rattle.ledger.proofs.Tests.{held-is}
-use Rattle.ledger.proofs.Changes.{row-here, row-else}
+use Rattle.ledger.proofs.Changes.{row-here}
 use Rattle.ledger.proofs.Good.{Good, good-sound}
-use Rattle.desk.proofs.Tickets.{Seat, open-seat, seat-open}
+use Rattle.desk.proofs.Tickets.{open-seat, seat-open, one-row}
+use Rattle.desk.proofs.Halved.{halved-once}
 use Rattle.desk.specs.Runs.{turn, peek, collect, withdraw, step, goesTo, HalvedOnce}
-use Rattle.desk.proofs.Runs.Kept.{one-row}
 
 -- row i is that of caller c's ticket t
 module _ (d : Desk) (g : Good d) (c t i : ℕ) (place : i < 32) (has : held c t (row d i) ≡ true) where
@@ -51,9 +51,8 @@ module _ (d : Desk) (g : Good d) (c t i : ℕ) (place : i < 32) (has : held c t 
 
   -- the turn that comes to the row
   pub turn-row : goesTo c t d turn ≡ true → HalvedOnce (row d i) (row (step d turn .desk) i)
-  unfolding turnOf halvedRow
+  unfolding turnOf
   turn-row e =
       let o = and-true (ltb (next d) 32) (held c t (row d ((d .pointer + next d) % 32))) e in
       let here : (d .pointer + next d) % 32 ≡ i = one-row d g c t ((d .pointer + next d) % 32) i (omega arith) place (o .1) has in
-      let new = row-here d i (halvedRow (row d i)) (d .counts) (past i) (g .long) place in
-      rw (good-sound d g, o .0, here, new) (record { same-query = refl; one-more = refl; own-bracket = refl })
+      rw (good-sound d g, o .0, here, row-here d i (halvedRow (row d i)) (d .counts) (past i) (g .long) place) (halved-once (row d i))
