@@ -144,6 +144,12 @@ pub record HalvedTo (kind : ℕ) (p y : Float) (n : ℕ) (b : Bracket) : Type 0 
   pub judgedTo : judgedOf kind p y ≡ Within region (first .lo) (first .hi)
   pub halvings : b ≡ times (halve (asked kind region p y)) n first
 
+-- r is the row of a query just posted: no halving done, and lo and hi as judging the query gave them
+pub record JustPosted (kind : ℕ) (p y : Float) (r : Row) : Type 0 where
+  pub none-yet : r .halvings ≡ 0
+  pub bracket : HalvedTo kind p y 0 (record { lo = r .lo; hi = r .hi })
+  pub query : queryOf r ≡ asked kind (bracket .region) p y
+
 -- s is the state of 40 halvings of the query's own bracket
 pub record SettledTo (kind : ℕ) (p y : Float) (s : Settled) : Type 0 where
   pub bracket : Bracket

@@ -21,11 +21,11 @@ use Rattle.desk.specs.declared.Open.the-variants.{At, Closed}
 use Rattle.ledger.specs.Rows.{due, most, row, counted, held, ofCaller, vacant, tally, lowest, between, sound}
 use Rattle.desk.specs.Answers.{numberOf, whole, kelvin, state, valuesOf, Tells}
 use Rattle.desk.specs.Model.{newDesk, answers, refuse, queryOf, settle, fresh, seated, admitted, judgedPost, postOf, next, turnedAt, turnOf, openOf, emptied, peekAt, collectAt, withdrawAt, peekOf, collectOf, withdrawOf}
-use Rattle.ledger.proofs.Good.{good-sound, sound-good, free-row}
-use Rattle.desk.specs.Runs.{Call, post, turn, peek, collect, withdraw, step, afterFrom, after, answerTo, Entry, historyFrom, history, ownCalls, ownPart, enough, turns, OpenFor, Patient, CollectsGive, asked, HalvedTo, SettledTo, Origin, goesTo, received, HalvedOnce}
-use Rattle.desk.proofs.Runs.Rows.{peek-row, collect-row, early-row, withdraw-row, turn-row}
+use Rattle.ledger.proofs.Good.{Good, good-sound, sound-good, free-row}
+use Rattle.desk.specs.Runs.{Call, post, turn, peek, collect, withdraw, step, afterFrom, after, answerTo, Entry, historyFrom, history, ownCalls, ownPart, enough, turns, OpenFor, Patient, CollectsGive, asked, HalvedTo, JustPosted, SettledTo, Origin, goesTo, received, HalvedOnce}
+use Rattle.desk.proofs.Runs.Rows.{turn-row, pass-row, peek-row, early-row, collect-row, withdraw-row}
 use Rattle.desk.proofs.Runs.Kept.{good-new, good-step}
-use Rattle.desk.proofs.Runs.Own.{followed, peeked, collected, peek-at, collect-at, collect-ready}
+use Rattle.desk.proofs.Runs.Own.{post-row, followed, peeked, collected, peek-at, collect-at, collect-ready}
 use Rattle.desk.proofs.Runs.Posted.{open-posted, patient-collects}
 use Rattle.desk.proofs.Runs.Once.{one-post}
 use Rattle.desk.proofs.Runs.Same.{same-answers}
@@ -98,35 +98,48 @@ pub new-sound : sound newDesk ≡ true
 new-sound = good-sound newDesk good-new
 
 module _ (d : Desk) (long : length (d .rows) ≡ 32) (wide : length (d .counts) ≡ 8) (ok : sound d ≡ true) where
+  good : Good d
+  good = sound-good d long wide ok
+
   pub stays-sound : (x : Call) → sound (step d x .desk) ≡ true
-  stays-sound x = good-sound (step d x .desk) (good-step d x (sound-good d long wide ok))
+  stays-sound x = good-sound (step d x .desk) (good-step d x good)
 
   -- A caller with fewer than four open finds a row free.
   pub row-is-free : (c : ℕ) → c < 8 → tally (ofCaller c) d < 4 → lowest vacant d < 32
-  row-is-free c l h = free-row d (sound-good d long wide ok .rows) c l h
+  row-is-free c l h = free-row d (good .rows) c l h
 
-  -- The calls that name a ticket, and the turn that comes to its row, go by what that row holds, whatever query brought it there. Row i is caller c's ticket
-  -- t's:
+  -- A post that gets a ticket gets its caller's own count, which goes one on, and a row holds from then on what was asked.
+  pub post-by-row : (c kind : ℕ) (p y : Float) (t : ℕ) → step d (post c kind p y) .answer ≡ Ticket t
+      → (t ≡ counted d c)
+      × (counted (step d (post c kind p y) .desk) c ≡ t + 1)
+      × ((o : OpenFor c t (step d (post c kind p y) .desk)) × JustPosted kind p y (row (step d (post c kind p y) .desk) (o .0)))
+  post-by-row = post-row d good
+
+  -- The calls that name a ticket, and the turn that comes to its row, go by what that row holds, however it came there. Where row i is that of caller c's
+  -- ticket t:
   module _ (c t i : ℕ) (place : i < 32) (has : held c t (row d i) ≡ true) where
+    -- the turn that comes to it halves its own bracket, once, and counts one; any other leaves it as it is;
+    pub turn-by-row : goesTo c t d turn ≡ true → HalvedOnce (row d i) (row (step d turn .desk) i)
+    turn-by-row = turn-row d good c t i place has
+
+    pub turn-elsewhere : goesTo c t d turn ≡ false → row (step d turn .desk) i ≡ row d i
+    turn-elsewhere = pass-row d good c t i place has
+
     -- a peek shows its halvings, lo and hi;
     pub peek-by-row : Tells (step d (peek c t)) 0 (whole (row d i .halvings) ∷ kelvin (row d i .lo) ∷ kelvin (row d i .hi) ∷ []) d
-    peek-by-row = peek-row d (sound-good d long wide ok) c t i place has
+    peek-by-row = peek-row d good c t i place has
 
-    -- a collect after 40 halvings hands out the state of its lo and hi and frees it, and before that is refused;
+    -- a collect before 40 halvings is refused, and then hands out the state of its lo and hi and frees it;
+    pub early-by-row : row d i .halvings < due → Tells (step d (collect c t)) 12 [] d
+    early-by-row = early-row d good c t i place has
+
     pub collect-by-row : row d i .halvings ≡ due
         → Tells (step d (collect c t)) 0 (state (settle (queryOf (row d i)) (record { lo = row d i .lo; hi = row d i .hi })) ∷ []) (emptied d i)
-    collect-by-row h = collect-row d (sound-good d long wide ok) c t i place has (omega arith)
+    collect-by-row h = collect-row d good c t i place has (omega arith)
 
-    pub early-by-row : row d i .halvings < due → Tells (step d (collect c t)) 12 [] d
-    early-by-row = early-row d (sound-good d long wide ok) c t i place has
-
-    -- a withdraw frees it, ready or not;
+    -- a withdraw frees it, ready or not.
     pub withdraw-by-row : Tells (step d (withdraw c t)) 0 [] (emptied d i)
-    withdraw-by-row = withdraw-row d (sound-good d long wide ok) c t i place has
-
-    -- the turn that comes to it halves its own bracket, once, and counts one.
-    pub turn-by-row : goesTo c t d turn ≡ true → HalvedOnce (row d i) (row (step d turn .desk) i)
-    turn-by-row = turn-row d (sound-good d long wide ok) c t i place has
+    withdraw-by-row = withdraw-row d good c t i place has
 
 -- ---- on every desk
 

@@ -1,20 +1,21 @@
 -- On a sound desk, whether a run led to it or not, the calls that name a ticket and the turn that comes to its row go by what that row holds. Assumes nothing.
-use mathlib.Core.Path.{_≡_, refl, ap, _∙_}
-use mathlib.Core.Bool.{true}
+use mathlib.Core.Path.{_≡_, refl, ap, _∙_, subst}
+use mathlib.Core.Bool.{Bool, true, false, cond, _&&_}
 use mathlib.Core.List.{[], _∷_}
 use Prim.Native.Nat.{ℕ, _+_, _%_, _≤_, _<_}
 use native.Mathlib.Omega.{arith}
 use lib.Dec.{ltb}
 use borrow.Author.Tests.{le-ltb, lt-ltb}
 use Rattle.ledger.specs.declared.Desk.{Desk}
+use Rattle.desk.specs.declared.Answer.the-variants.{Halved, Idle}
 use Rattle.desk.specs.declared.Open.{Open}
 use Rattle.desk.specs.declared.Open.the-variants.{At}
 use Rattle.ledger.specs.Rows.{due, row, held, lowest}
 use Rattle.desk.specs.Answers.{whole, kelvin, state, Tells}
-use Rattle.desk.specs.Model.{queryOf, settle, halvedRow, next, past, turnOf, openOf, emptied, peekAt, collectAt, withdrawAt, peekOf, collectOf, withdrawOf}
+use Rattle.desk.specs.Model.{answers, queryOf, settle, halvedRow, next, past, turnedAt, turnOf, openOf, emptied, peekAt, collectAt, withdrawAt, peekOf, collectOf, withdrawOf}
 use Rattle.ledger.proofs.Search.{and-true}
 use Rattle.ledger.proofs.Tests.{held-is}
-use Rattle.ledger.proofs.Changes.{row-here}
+use Rattle.ledger.proofs.Changes.{row-here, row-else}
 use Rattle.ledger.proofs.Good.{Good, good-sound}
 use Rattle.desk.proofs.Tickets.{open-seat, seat-open, one-row}
 use Rattle.desk.proofs.Halved.{halved-once}
@@ -56,3 +57,18 @@ module _ (d : Desk) (g : Good d) (c t i : ℕ) (place : i < 32) (has : held c t 
       let o = and-true (ltb (next d) 32) (held c t (row d ((d .pointer + next d) % 32))) e in
       let here : (d .pointer + next d) % 32 ≡ i = one-row d g c t ((d .pointer + next d) % 32) i (omega arith) place (o .1) has in
       rw (good-sound d g, o .0, here, row-here d i (halvedRow (row d i)) (d .counts) (past i) (g .long) place) (halved-once (row d i))
+
+  -- and one that does not
+  pub pass-row : goesTo c t d turn ≡ false → row (step d turn .desk) i ≡ row d i
+  unfolding turnOf
+  pass-row e = rw (good-sound d g) (go (ltb (next d) 32) e)
+    where
+      j : ℕ
+      j = (d .pointer + next d) % 32
+
+      go : (b : Bool) → b && held c t (row d j) ≡ false → row ((cond b (answers Halved (turnedAt d j)) (answers Idle d)) .desk) i ≡ row d i
+      go false q = refl
+      go true q =
+          row-else d j (halvedRow (row d j)) (d .counts) (past j) i (λ same.
+          let h = subst (λ (n : ℕ). held c t (row d n) ≡ true) same has in
+          absurd (let z : _≡_ {A = ℕ} 0 1 = cc in omega arith))
