@@ -1,28 +1,23 @@
--- The theorems on runs: what one model gets does not go by what others do. Every word of them is defined in specs/Runs.antt, over the definitions that the
--- contracts of the desk's calls cite. Assumes nothing.
+-- The theorems on runs: what one model gets does not go by what others do. Every word of them is defined in specs/Runs, specs/Answers and specs/Refusals,
+-- over the definitions that the contracts of the desk's calls cite. Assumes nothing.
 use mathlib.Core.Path.{_≡_, refl, ap, subst}
-use mathlib.Core.Bool.{Bool, true, false, cond, _&&_}
+use mathlib.Core.Bool.{true, false}
 use mathlib.Core.List.{List, [], _∷_, _++_}
-use Prim.Native.Nat.{ℕ, _+_, _%_, _≤_, _<_}
+use Prim.Native.Nat.{ℕ, _+_, _≤_, _<_}
 use native.Mathlib.Omega.{arith}
 use lib.ListN.{length}
 use lib.Ieee.{Float}
-use lib.Dec.{ltb}
-use Rattle.settle.specs.declared.Judged.{Judged}
-use Rattle.settle.specs.declared.Judged.the-variants as Judged
 use Rattle.settle.specs.declared.Settled.{Settled}
-use Rattle.settle.specs.Settle.{judgedOf}
-use Rattle.ledger.specs.declared.Row.{Row}
 use Rattle.ledger.specs.declared.Desk.{Desk}
 use Rattle.desk.specs.declared.Answer.{Answer}
 use Rattle.desk.specs.declared.Answer.the-variants.{Refused, Ticket, Halved, Idle, Shown, State, Freed}
-use Rattle.desk.specs.declared.Open.{Open}
-use Rattle.desk.specs.declared.Open.the-variants.{At, Closed}
-use Rattle.ledger.specs.Rows.{due, most, row, counted, held, ofCaller, vacant, tally, lowest, between, sound}
+use Rattle.ledger.specs.Rows.{due, row, counted, held, ofCaller, vacant, tally, lowest, sound}
 use Rattle.desk.specs.Answers.{numberOf, whole, kelvin, state, valuesOf, Tells}
-use Rattle.desk.specs.Model.{newDesk, answers, refuse, queryOf, settle, fresh, seated, admitted, judgedPost, postOf, next, turnedAt, turnOf, openOf, emptied, peekAt, collectAt, withdrawAt, peekOf, collectOf, withdrawOf}
+use Rattle.desk.specs.Model.{newDesk, queryOf, settle, emptied}
 use Rattle.ledger.proofs.Good.{Good, good-sound, sound-good, free-row}
-use Rattle.desk.specs.Runs.{Call, post, turn, peek, collect, withdraw, step, afterFrom, after, answerTo, Entry, historyFrom, history, ownCalls, ownPart, enough, turns, OpenFor, Patient, CollectsGive, asked, HalvedTo, JustPosted, SettledTo, Origin, goesTo, received, HalvedOnce}
+use Rattle.desk.specs.Runs.{Call, post, turn, peek, collect, withdraw, step, afterFrom, after, answerTo, Entry, historyFrom, history, ownCalls, ownPart, enough, turns, OpenFor, Patient, CollectsGive, HalvedTo, JustPosted, SettledTo, Origin, goesTo, received, HalvedOnce}
+use Rattle.desk.specs.Refusals.{firstOf, testsOf}
+use Rattle.desk.proofs.Runs.Refusals.{keeps, in-order}
 use Rattle.desk.proofs.Runs.Rows.{turn-row, pass-row, peek-row, early-row, collect-row, withdraw-row}
 use Rattle.desk.proofs.Runs.Kept.{good-new, good-step}
 use Rattle.desk.proofs.Runs.Own.{post-row, followed, peeked, collected, peek-at, collect-at, collect-ready}
@@ -145,50 +140,7 @@ module _ (d : Desk) (long : length (d .rows) ≡ 32) (wide : length (d .counts) 
 
 -- A refused call leaves the desk as it was.
 pub refused-keeps : (d : Desk) (x : Call) (n : ℕ) → step d x .answer ≡ Refused n → step d x .desk ≡ d
-unfolding postOf judgedPost admitted turnOf peekOf collectOf withdrawOf peekAt collectAt withdrawAt
-refused-keeps d (post c k p y) n = go (sound d) (ltb c 8) (between 2 3 k) (judgedOf k p y)
-  where
-    admits : (r : Row) (u v : Bool) → (cond u (cond v (answers (Ticket (r .ticket)) (seated d r)) (refuse 10 d)) (refuse 13 d)) .answer ≡ Refused n
-        → (cond u (cond v (answers (Ticket (r .ticket)) (seated d r)) (refuse 10 d)) (refuse 13 d)) .desk ≡ d
-    admits r false v e = refl
-    admits r true false e = refl
-    admits r true true e = absurd (let z : _≡_ {A = ℕ} 0 1 = cc in omega arith)
-
-    go : (u v w : Bool) (j : Judged) → (cond u (cond (v && w) (judgedPost d c k p y j) (refuse 9 d)) (refuse 15 d)) .answer ≡ Refused n
-        → (cond u (cond (v && w) (judgedPost d c k p y j) (refuse 9 d)) (refuse 15 d)) .desk ≡ d
-    go false v w j e = refl
-    go true false w j e = refl
-    go true true false j e = refl
-    go true true true (Judged.Refused m) e = refl
-    go true true true (Judged.Within r lo hi) e =
-        admits (fresh c (counted d c) (asked k r p y) (record { lo = lo; hi = hi })) (ltb (counted d c) most) (ltb (tally (ofCaller c) d) 4) e
-refused-keeps d turn n = go (sound d) (ltb (next d) 32)
-  where
-    go : (u v : Bool) → (cond u (cond v (answers Halved (turnedAt d ((d .pointer + next d) % 32))) (answers Idle d)) (refuse 15 d)) .answer ≡ Refused n
-        → (cond u (cond v (answers Halved (turnedAt d ((d .pointer + next d) % 32))) (answers Idle d)) (refuse 15 d)) .desk ≡ d
-    go false v e = refl
-    go true true e = absurd (let z : _≡_ {A = ℕ} 0 1 = cc in omega arith)
-    go true false e = refl
-refused-keeps d (peek c t) n = go (openOf d c t)
-  where
-    go : (o : Open) → peekAt d o .answer ≡ Refused n → peekAt d o .desk ≡ d
-    go (Closed m) e = refl
-    go (At i) e = refl
-refused-keeps d (collect c t) n = go (openOf d c t)
-  where
-    done : (i : ℕ) (b : Bool) (v : Settled) → (cond b (refuse 12 d) (answers (State v) (emptied d i))) .answer ≡ Refused n
-        → (cond b (refuse 12 d) (answers (State v) (emptied d i))) .desk ≡ d
-    done i true v e = refl
-    done i false v e = absurd (let z : _≡_ {A = ℕ} 0 1 = cc in omega arith)
-
-    go : (o : Open) → collectAt d o .answer ≡ Refused n → collectAt d o .desk ≡ d
-    go (Closed m) e = refl
-    go (At i) e = done i (ltb (row d i .halvings) due) _ e
-refused-keeps d (withdraw c t) n = go (openOf d c t)
-  where
-    go : (o : Open) → withdrawAt d o .answer ≡ Refused n → withdrawAt d o .desk ≡ d
-    go (Closed m) e = refl
-    go (At i) e = absurd (let z : _≡_ {A = ℕ} 0 1 = cc in omega arith)
+refused-keeps = keeps
 
 -- So a call that answers a number other than 0 says that number only: it hands out nothing and leaves the desk as it was.
 pub numbered-keeps : (d : Desk) (x : Call) → 0 < numberOf (step d x .answer) → Tells (step d x) (numberOf (step d x .answer)) [] d
@@ -202,3 +154,7 @@ numbered-keeps d x l = go (step d x .answer) refl l
     go (Shown n lo hi) e h = absurd (omega arith)
     go (State s) e h = absurd (omega arith)
     go Freed e h = absurd (omega arith)
+
+-- The number is that of the first test that fails, in the order of specs/Refusals.
+pub refused-in-order : (d : Desk) (x : Call) → numberOf (step d x .answer) ≡ firstOf (testsOf d x)
+refused-in-order = in-order

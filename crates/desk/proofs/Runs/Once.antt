@@ -3,7 +3,6 @@ use mathlib.Core.Path.{_≡_, refl, sym, ap₂, _∙_, subst}
 use mathlib.Core.List.{List, [], _∷_, _++_}
 use Prim.Native.Nat.{ℕ, _<_}
 use native.Mathlib.Omega.{arith}
-use lib.Ieee.{Float}
 use Rattle.ledger.specs.Rows.{counted}
 use Rattle.desk.specs.Runs.{Call, post, after, Origin}
 use Rattle.desk.proofs.Runs.Own.{good-after, got, followed}
