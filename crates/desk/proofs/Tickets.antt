@@ -7,9 +7,11 @@ use lib.Dec.{ltb}
 use borrow.Author.Tests.{ltb-true, lt-ltb}
 use Rattle.ledger.specs.declared.Desk.{Desk}
 use Rattle.desk.specs.declared.Open.the-variants.{At, Closed}
-use Rattle.ledger.specs.Rows.{row, held, lowest, sound}
+use Rattle.ledger.specs.Rows.{row, held, tally, lowest, sound}
 use Rattle.desk.specs.Model.{openOf}
+use Rattle.ledger.proofs.Search.{counted-once}
 use Rattle.ledger.proofs.Changes.{lowest-true, lowest-le}
+use Rattle.ledger.proofs.Good.{Good}
 
 -- row i is caller c's and ticket t's
 pub record Seat (d : Desk) (c t i : ℕ) : Type 0 where
@@ -35,3 +37,8 @@ module _ (d : Desk) (c t : ℕ) where
   pub seat-open : sound d ≡ true → c < 8 → (i : ℕ) → Seat d c t i → openOf d c t ≡ At (lowest (held c t) d)
   unfolding openOf
   seat-open s k i o = rw (s, lt-ltb c 8 k, lt-ltb (lowest (held c t) d) 32 (omega (arith, o .place, lowest-le (held c t) d i (o .place) (o .has))))
+
+-- a ticket has one row
+pub one-row : (d : Desk) → Good d → (c t i j : ℕ) → i < 32 → j < 32 → held c t (row d i) ≡ true → held c t (row d j) ≡ true → i ≡ j
+unfolding tally
+one-row d g c t i j = counted-once (λ k. held c t (row d k)) 32 i j (g .rows .once c t)

@@ -15,7 +15,7 @@ use Rattle.ledger.specs.declared.Desk.{Desk}
 use Rattle.desk.specs.declared.Answer.the-variants as Answer
 use Rattle.desk.specs.declared.Open.the-variants.{At}
 use Rattle.ledger.specs.Rows.{due, row, unfinished, sound, put}
-use Rattle.desk.specs.Model.{answers, refuse, queryOf, bracketOf, settle, halvedRow, next, past, turnOf, openOf, emptied, collectOf, collectAt, peekOf, peekAt}
+use Rattle.desk.specs.Model.{answers, refuse, queryOf, bracketOf, settle, halvedRow, next, past, turnOf, openOf, emptied, collectOf, collectAt}
 use Rattle.ledger.proofs.Tests.{unfinished-is}
 use Rattle.ledger.proofs.Changes.{onward-true}
 use Rattle.ledger.proofs.Lists.{row-is}
@@ -40,10 +40,6 @@ module _ (d : Desk) (vs : List Val) (own : Is (owned DeskT.the-type) d vs) (i : 
   module _ (c t : ℕ) (o : openOf d c t ≡ At i) where
     same : row d i ≡ here
     same = row-is d vs own i r (open-seat d c t i o .place)
-
-    pub peek-shows : answers (Answer.Shown (here .halvings) (here .lo) (here .hi)) d ≡ peekOf d c t
-    unfolding peekOf peekAt
-    peek-shows = rw (o, same)
 
     pub collect-early : here .halvings < due → refuse 12 d ≡ collectOf d c t
     unfolding collectOf collectAt

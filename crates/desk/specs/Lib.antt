@@ -1,2 +1,4 @@
+pub mod Answers
 pub mod Model
 pub mod Runs
+pub mod Refusals

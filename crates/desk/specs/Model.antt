@@ -35,16 +35,6 @@ answers a d = record { answer = a; desk = d }
 abbrev pub refuse : ℕ → Desk → Outcome
 refuse n d = answers (Answer.Refused n) d
 
--- an answer's refusal number, and 0 where it is none
-abbrev pub numberOf : Answer → ℕ
-numberOf (Answer.Refused n) = n
-numberOf (Answer.Ticket t) = 0
-numberOf Answer.Halved = 0
-numberOf Answer.Idle = 0
-numberOf (Answer.Shown n lo hi) = 0
-numberOf (Answer.State s) = 0
-numberOf Answer.Freed = 0
-
 -- ---- queries and their brackets
 
 -- what was asked, with the phase fixed at the post

@@ -11,13 +11,14 @@ use Rattle.settle.specs.declared.Bracket.{Bracket}
 use Rattle.settle.specs.declared.Judged.the-variants.{Within}
 use Rattle.settle.specs.declared.Settled.{Settled}
 use Rattle.settle.specs.Settle.{judgedOf}
+use Rattle.ledger.specs.declared.Row.{Row}
 use Rattle.ledger.specs.declared.Desk.{Desk}
 use Rattle.desk.specs.declared.Answer.{Answer}
 use Rattle.desk.specs.declared.Answer.the-variants.{Ticket, State}
 use Rattle.desk.specs.declared.Outcome.{Outcome}
 use Rattle.ledger.specs.Search.{bit}
 use Rattle.ledger.specs.Rows.{due, row, held}
-use Rattle.desk.specs.Model.{newDesk, next, Query, halve, settle, postOf, turnOf, peekOf, collectOf, withdrawOf}
+use Rattle.desk.specs.Model.{newDesk, next, Query, queryOf, halve, settle, postOf, turnOf, peekOf, collectOf, withdrawOf}
 
 -- ---- calls and runs
 
@@ -107,11 +108,19 @@ OpenFor c t d = (i : ℕ) × (i < 32) × (held c t (row d i) ≡ true)
 abbrev pub Posted : ℕ → ℕ → ℕ → Float → Float → List Call → List Call → List Call → Type 0
 Posted c t kind p y pre since xs = (xs ≡ pre ++ post c kind p y ∷ since) × (answerTo pre (post c kind p y) ≡ Ticket t)
 
+-- a post that gave caller c ticket t in a run; proofs/Runs/Demand shows that there is no other (`ticket-once`)
+pub record Origin (c t : ℕ) (run : List Call) : Type 0 where
+  pub pre : List Call
+  pub since : List Call
+  pub kind : ℕ
+  pub p : Float
+  pub y : Float
+  pub posted : Posted c t kind p y pre since run
+
 -- each collect of caller c that names a ticket then open for it comes at least 1,280 turns after that ticket's post
 abbrev pub Patient : ℕ → List Call → Type 0
 Patient c xs =
-    (before rest : List Call) (t : ℕ) → xs ≡ before ++ collect c t ∷ rest → OpenFor c t (after before)
-    → (pre since : List Call) (kind : ℕ) (p y : Float) → Posted c t kind p y pre since before → enough ≤ turns since
+    (before rest : List Call) (t : ℕ) → xs ≡ before ++ collect c t ∷ rest → OpenFor c t (after before) → (o : Origin c t before) → enough ≤ turns (o .since)
 
 -- and each such collect gives a state
 abbrev pub CollectsGive : ℕ → List Call → Type 0
@@ -136,22 +145,19 @@ pub record HalvedTo (kind : ℕ) (p y : Float) (n : ℕ) (b : Bracket) : Type 0 
   pub judgedTo : judgedOf kind p y ≡ Within phase (first .lo) (first .hi)
   pub halvings : b ≡ times (halve (asked kind phase p y)) n first
 
+-- r is the row of a query just posted: no halving done, and lo and hi as judging the query gave them
+pub record JustPosted (kind : ℕ) (p y : Float) (r : Row) : Type 0 where
+  pub none-yet : r .halvings ≡ 0
+  pub bracket : HalvedTo kind p y 0 (record { lo = r .lo; hi = r .hi })
+  pub query : queryOf r ≡ asked kind (bracket .phase) p y
+
 -- s is the state of 40 halvings of the query's own bracket
 pub record SettledTo (kind : ℕ) (p y : Float) (s : Settled) : Type 0 where
   pub bracket : Bracket
   pub halved : HalvedTo kind p y due bracket
   pub settles : s ≡ settle (asked kind (halved .phase) p y) bracket
 
--- the post that gave caller c ticket t in a run
-pub record Origin (c t : ℕ) (run : List Call) : Type 0 where
-  pub pre : List Call
-  pub since : List Call
-  pub kind : ℕ
-  pub p : Float
-  pub y : Float
-  pub posted : Posted c t kind p y pre since run
-
--- ---- which turns a row received
+-- ---- which turns a row received, and what one does
 
 -- the call x on the desk d is a turn that goes to the row of caller c's ticket t
 abbrev pub goesTo : ℕ → ℕ → Desk → Call → Bool
@@ -161,3 +167,9 @@ goesTo c t d x = isTurn x && (ltb (next d) 32 && held c t (row d ((d .pointer + 
 unfoldable pub received : ℕ → ℕ → Desk → List Call → ℕ
 received c t d [] = 0
 received c t d (x ∷ xs) = bit (goesTo c t d x) + received c t (step d x .desk) xs
+
+-- s is the row r after one halving of the bracket that r holds
+pub record HalvedOnce (r s : Row) : Type 0 where
+  pub same-query : queryOf s ≡ queryOf r
+  pub one-more : s .halvings ≡ r .halvings + 1
+  pub own-bracket : record { lo = s .lo; hi = s .hi } ≡ halve (queryOf r) (record { lo = r .lo; hi = r .hi })

@@ -1,30 +1,28 @@
--- The theorems on runs: what one model gets does not go by what others do. Every word of them is defined in specs/Runs.antt, over the definitions that the
--- contracts of the desk's calls cite. Assumes nothing.
+-- The theorems on runs: what one model gets does not go by what others do. Every word of them is defined in specs/Runs, specs/Answers and specs/Refusals,
+-- over the definitions that the contracts of the desk's calls cite. Assumes nothing.
 use mathlib.Core.Path.{_≡_, refl, ap, subst}
-use mathlib.Core.Bool.{Bool, true, false, cond, _&&_}
+use mathlib.Core.Bool.{true, false}
 use mathlib.Core.List.{List, [], _∷_, _++_}
-use Prim.Native.Nat.{ℕ, _+_, _%_, _≤_, _<_}
+use Prim.Native.Nat.{ℕ, _+_, _≤_, _<_}
 use native.Mathlib.Omega.{arith}
 use lib.ListN.{length}
 use lib.Ieee.{Float}
-use lib.Dec.{ltb}
-use Rattle.settle.specs.declared.Judged.{Judged}
-use Rattle.settle.specs.declared.Judged.the-variants as Judged
 use Rattle.settle.specs.declared.Settled.{Settled}
-use Rattle.settle.specs.Settle.{judgedOf}
-use Rattle.ledger.specs.declared.Row.{Row}
 use Rattle.ledger.specs.declared.Desk.{Desk}
 use Rattle.desk.specs.declared.Answer.{Answer}
 use Rattle.desk.specs.declared.Answer.the-variants.{Refused, Ticket, Halved, Idle, Shown, State, Freed}
-use Rattle.desk.specs.declared.Open.{Open}
-use Rattle.desk.specs.declared.Open.the-variants.{At, Closed}
-use Rattle.ledger.specs.Rows.{due, most, row, counted, ofCaller, vacant, tally, lowest, between, sound}
-use Rattle.desk.specs.Model.{newDesk, answers, refuse, numberOf, queryOf, bracketOf, settle, fresh, seated, admitted, judgedPost, postOf, next, turnedAt, turnOf, openOf, emptied, peekAt, collectAt, withdrawAt, peekOf, collectOf, withdrawOf}
-use Rattle.ledger.proofs.Good.{good-sound, sound-good, free-row}
-use Rattle.desk.specs.Runs.{Call, post, turn, peek, collect, withdraw, step, afterFrom, after, answerTo, Entry, historyFrom, history, ownCalls, ownPart, enough, turns, OpenFor, Patient, CollectsGive, asked, HalvedTo, SettledTo, Origin, received}
+use Rattle.ledger.specs.Rows.{due, row, counted, held, ofCaller, vacant, tally, lowest, sound}
+use Rattle.desk.specs.Answers.{numberOf, whole, kelvin, state, valuesOf, Tells}
+use Rattle.desk.specs.Model.{newDesk, queryOf, settle, emptied}
+use Rattle.ledger.proofs.Good.{Good, good-sound, sound-good, free-row}
+use Rattle.desk.specs.Runs.{Call, post, turn, peek, collect, withdraw, step, afterFrom, after, answerTo, Entry, historyFrom, history, ownCalls, ownPart, enough, turns, OpenFor, Patient, CollectsGive, HalvedTo, JustPosted, SettledTo, Origin, goesTo, received, HalvedOnce}
+use Rattle.desk.specs.Refusals.{firstOf, testsOf}
+use Rattle.desk.proofs.Runs.Refusals.{keeps, in-order}
+use Rattle.desk.proofs.Runs.Rows.{turn-row, pass-row, peek-row, early-row, collect-row, withdraw-row}
 use Rattle.desk.proofs.Runs.Kept.{good-new, good-step}
-use Rattle.desk.proofs.Runs.Own.{followed, peeked, collected, peek-at, collect-at, collect-ready}
+use Rattle.desk.proofs.Runs.Own.{post-row, followed, peeked, collected, peek-at, collect-at, collect-ready}
 use Rattle.desk.proofs.Runs.Posted.{open-posted, patient-collects}
+use Rattle.desk.proofs.Runs.Once.{one-post}
 use Rattle.desk.proofs.Runs.Same.{same-answers}
 use Rattle.desk.proofs.Runs.Received.{peek-received}
 
@@ -39,30 +37,47 @@ pub ready-in-time : (c t kind : ℕ) (p y : Float) (pre since : List Call) → c
     → OpenFor c t (after (pre ++ post c kind p y ∷ since)) → enough ≤ turns since → (s : Settled) × (answerTo (pre ++ post c kind p y ∷ since) (collect c t) ≡ State s)
 ready-in-time = collect-ready
 
--- Each state collected, in any run, is that of 40 halvings of its own query's bracket.
-pub state-collected : (c t : ℕ) (run : List Call) (s : Settled) → answerTo run (collect c t) ≡ State s → (o : Origin c t run) × SettledTo (o .kind) (o .p) (o .y) s
+-- ---- a ticket's own query
+
+-- A ticket that is open for a caller was given to it by a post of the run,
+pub ticket-posted : (c t : ℕ) (run : List Call) → OpenFor c t (after run) → Origin c t run
+ticket-posted = open-posted
+
+-- and by one only: two posts of a run that gave a caller the same ticket are one, at the same place of the run.
+pub ticket-once : (c t : ℕ) (run : List Call) (a b : Origin c t run) → (a .pre ≡ b .pre) × (a .kind ≡ b .kind) × (a .p ≡ b .p) × (a .y ≡ b .y) × (a .since ≡ b .since)
+ticket-once = one-post
+
+-- Each state collected, in any run, was posted for, and is that of 40 halvings of the bracket of the query that was posted.
+pub state-collected : (c t : ℕ) (run : List Call) (s : Settled) → answerTo run (collect c t) ≡ State s
+    → Origin c t run × ((o : Origin c t run) → SettledTo (o .kind) (o .p) (o .y) s)
 state-collected c t run s e =
-    let f = collected (after run) c t s e in
-    let o = open-posted c t run (f .at, f .seat .place, f .seat .has) in
-    let d = after (o .pre ++ post c (o .kind) (o .p) (o .y) ∷ o .since) in (
-      o,
-      collect-at c t (o .kind) (o .p) (o .y) _ d (followed c t (o .kind) (o .p) (o .y) (o .pre) (o .since) (o .posted .1)) s
+    let f = collected (after run) c t s e in (
+      open-posted c t run (f .at, f .seat .place, f .seat .has),
+      λ o.
+          collect-at c t (o .kind) (o .p) (o .y) _ (after (o .pre ++ post c (o .kind) (o .p) (o .y) ∷ o .since))
+          (followed c t (o .kind) (o .p) (o .y) (o .pre) (o .since) (o .posted .1)) s
           (subst (λ (b : List Call). answerTo b (collect c t) ≡ State s) (o .posted .0) e),
     )
 
--- A peek after n halvings shows the bracket that n halvings give; and n is the number of turns that the ticket's row received since its post, at most 40.
+-- A peek after n halvings shows the bracket that n halvings give of that query's; and n is the number of turns that the ticket's row received since its
+-- post, at most 40.
 pub bracket-shown : (c t : ℕ) (run : List Call) (n : ℕ) (lo hi : Float) → answerTo run (peek c t) ≡ Shown n lo hi
-    → (o : Origin c t run)
-    × HalvedTo (o .kind) (o .p) (o .y) n (record { lo = lo; hi = hi })
+    → Origin c t run
+    × ((o : Origin c t run)
+    → HalvedTo (o .kind) (o .p) (o .y) n (record { lo = lo; hi = hi })
     × (n ≡ received c t (after (o .pre ++ post c (o .kind) (o .p) (o .y) ∷ [])) (o .since))
-    × (n ≤ due)
+    × (n ≤ due))
 bracket-shown c t run n lo hi e =
-    let f = peeked (after run) c t n lo hi e in
-    let o = open-posted c t run (f .at, f .seat .place, f .seat .has) in
-    let d = after (o .pre ++ post c (o .kind) (o .p) (o .y) ∷ o .since) in
-    let q = subst (λ (b : List Call). answerTo b (peek c t) ≡ Shown n lo hi) (o .posted .0) e in
-    let r = peek-received c t (o .kind) (o .p) (o .y) (o .pre) (o .since) n lo hi (o .posted .1) q in
-    (o, peek-at c t (o .kind) (o .p) (o .y) _ d (followed c t (o .kind) (o .p) (o .y) (o .pre) (o .since) (o .posted .1)) n lo hi q, r .0, r .1)
+    let f = peeked (after run) c t n lo hi e in (
+      open-posted c t run (f .at, f .seat .place, f .seat .has),
+      λ o.
+          let d = after (o .pre ++ post c (o .kind) (o .p) (o .y) ∷ o .since) in
+          let q = subst (λ (b : List Call). answerTo b (peek c t) ≡ Shown n lo hi) (o .posted .0) e in
+          let r = peek-received c t (o .kind) (o .p) (o .y) (o .pre) (o .since) n lo hi (o .posted .1) q in
+          (peek-at c t (o .kind) (o .p) (o .y) _ d (followed c t (o .kind) (o .p) (o .y) (o .pre) (o .since) (o .posted .1)) n lo hi q, r .0, r .1),
+    )
+
+-- ---- the two ways to say what a call of a run got
 
 -- `history` and `answerTo` agree: the call x of a run got the answer that it gets after what came before it.
 pub history-at : (d : Desk) (before rest : List Call) (x : Call)
@@ -78,71 +93,68 @@ pub new-sound : sound newDesk ≡ true
 new-sound = good-sound newDesk good-new
 
 module _ (d : Desk) (long : length (d .rows) ≡ 32) (wide : length (d .counts) ≡ 8) (ok : sound d ≡ true) where
+  good : Good d
+  good = sound-good d long wide ok
+
   pub stays-sound : (x : Call) → sound (step d x .desk) ≡ true
-  stays-sound x = good-sound (step d x .desk) (good-step d x (sound-good d long wide ok))
+  stays-sound x = good-sound (step d x .desk) (good-step d x good)
 
   -- A caller with fewer than four open finds a row free.
   pub row-is-free : (c : ℕ) → c < 8 → tally (ofCaller c) d < 4 → lowest vacant d < 32
-  row-is-free c l h = free-row d (sound-good d long wide ok .rows) c l h
+  row-is-free c l h = free-row d (good .rows) c l h
+
+  -- A post that gets a ticket gets its caller's own count, which goes one on, and a row holds from then on what was asked.
+  pub post-by-row : (c kind : ℕ) (p y : Float) (t : ℕ) → step d (post c kind p y) .answer ≡ Ticket t
+      → (t ≡ counted d c)
+      × (counted (step d (post c kind p y) .desk) c ≡ t + 1)
+      × ((o : OpenFor c t (step d (post c kind p y) .desk)) × JustPosted kind p y (row (step d (post c kind p y) .desk) (o .0)))
+  post-by-row = post-row d good
+
+  -- The calls that name a ticket, and the turn that comes to its row, go by what that row holds, however it came there. Where row i is that of caller c's
+  -- ticket t:
+  module _ (c t i : ℕ) (place : i < 32) (has : held c t (row d i) ≡ true) where
+    -- the turn that comes to it halves its own bracket, once, and counts one; any other leaves it as it is;
+    pub turn-by-row : goesTo c t d turn ≡ true → HalvedOnce (row d i) (row (step d turn .desk) i)
+    turn-by-row = turn-row d good c t i place has
+
+    pub turn-elsewhere : goesTo c t d turn ≡ false → row (step d turn .desk) i ≡ row d i
+    turn-elsewhere = pass-row d good c t i place has
+
+    -- a peek shows its halvings, lo and hi;
+    pub peek-by-row : Tells (step d (peek c t)) 0 (whole (row d i .halvings) ∷ kelvin (row d i .lo) ∷ kelvin (row d i .hi) ∷ []) d
+    peek-by-row = peek-row d good c t i place has
+
+    -- a collect before 40 halvings is refused, and then hands out the state of its lo and hi and frees it;
+    pub early-by-row : row d i .halvings < due → Tells (step d (collect c t)) 12 [] d
+    early-by-row = early-row d good c t i place has
+
+    pub collect-by-row : row d i .halvings ≡ due
+        → Tells (step d (collect c t)) 0 (state (settle (queryOf (row d i)) (record { lo = row d i .lo; hi = row d i .hi })) ∷ []) (emptied d i)
+    collect-by-row h = collect-row d good c t i place has (omega arith)
+
+    -- a withdraw frees it, ready or not.
+    pub withdraw-by-row : Tells (step d (withdraw c t)) 0 [] (emptied d i)
+    withdraw-by-row = withdraw-row d good c t i place has
 
 -- ---- on every desk
 
 -- A refused call leaves the desk as it was.
 pub refused-keeps : (d : Desk) (x : Call) (n : ℕ) → step d x .answer ≡ Refused n → step d x .desk ≡ d
-unfolding postOf judgedPost admitted turnOf peekOf collectOf withdrawOf peekAt collectAt withdrawAt
-refused-keeps d (post c k p y) n = go (sound d) (ltb c 8) (between 2 3 k) (judgedOf k p y)
-  where
-    admits : (r : Row) (u v : Bool) → (cond u (cond v (answers (Ticket (r .ticket)) (seated d r)) (refuse 10 d)) (refuse 13 d)) .answer ≡ Refused n
-        → (cond u (cond v (answers (Ticket (r .ticket)) (seated d r)) (refuse 10 d)) (refuse 13 d)) .desk ≡ d
-    admits r false v e = refl
-    admits r true false e = refl
-    admits r true true e = absurd (let z : _≡_ {A = ℕ} 0 1 = cc in omega arith)
+refused-keeps = keeps
 
-    go : (u v w : Bool) (j : Judged) → (cond u (cond (v && w) (judgedPost d c k p y j) (refuse 9 d)) (refuse 15 d)) .answer ≡ Refused n
-        → (cond u (cond (v && w) (judgedPost d c k p y j) (refuse 9 d)) (refuse 15 d)) .desk ≡ d
-    go false v w j e = refl
-    go true false w j e = refl
-    go true true false j e = refl
-    go true true true (Judged.Refused m) e = refl
-    go true true true (Judged.Within r lo hi) e =
-        admits (fresh c (counted d c) (asked k r p y) (record { lo = lo; hi = hi })) (ltb (counted d c) most) (ltb (tally (ofCaller c) d) 4) e
-refused-keeps d turn n = go (sound d) (ltb (next d) 32)
-  where
-    go : (u v : Bool) → (cond u (cond v (answers Halved (turnedAt d ((d .pointer + next d) % 32))) (answers Idle d)) (refuse 15 d)) .answer ≡ Refused n
-        → (cond u (cond v (answers Halved (turnedAt d ((d .pointer + next d) % 32))) (answers Idle d)) (refuse 15 d)) .desk ≡ d
-    go false v e = refl
-    go true true e = absurd (let z : _≡_ {A = ℕ} 0 1 = cc in omega arith)
-    go true false e = refl
-refused-keeps d (peek c t) n = go (openOf d c t)
-  where
-    go : (o : Open) → peekAt d o .answer ≡ Refused n → peekAt d o .desk ≡ d
-    go (Closed m) e = refl
-    go (At i) e = refl
-refused-keeps d (collect c t) n = go (openOf d c t)
-  where
-    done : (i : ℕ) (b : Bool) (v : Settled) → (cond b (refuse 12 d) (answers (State v) (emptied d i))) .answer ≡ Refused n
-        → (cond b (refuse 12 d) (answers (State v) (emptied d i))) .desk ≡ d
-    done i true v e = refl
-    done i false v e = absurd (let z : _≡_ {A = ℕ} 0 1 = cc in omega arith)
-
-    go : (o : Open) → collectAt d o .answer ≡ Refused n → collectAt d o .desk ≡ d
-    go (Closed m) e = refl
-    go (At i) e = done i (ltb (row d i .halvings) due) (settle (queryOf (row d i)) (bracketOf (row d i))) e
-refused-keeps d (withdraw c t) n = go (openOf d c t)
-  where
-    go : (o : Open) → withdrawAt d o .answer ≡ Refused n → withdrawAt d o .desk ≡ d
-    go (Closed m) e = refl
-    go (At i) e = absurd (let z : _≡_ {A = ℕ} 0 1 = cc in omega arith)
-
--- So too where it is told by its number.
-pub numbered-keeps : (d : Desk) (x : Call) → 0 < numberOf (step d x .answer) → step d x .desk ≡ d
+-- So a call that answers a number other than 0 says that number only: it hands out nothing and leaves the desk as it was.
+pub numbered-keeps : (d : Desk) (x : Call) → 0 < numberOf (step d x .answer) → Tells (step d x) (numberOf (step d x .answer)) [] d
 numbered-keeps d x l = go (step d x .answer) refl l
   where
-    go : (a : Answer) → step d x .answer ≡ a → 0 < numberOf a → step d x .desk ≡ d
-    go (Refused n) e h = refused-keeps d x n e
+    go : (a : Answer) → step d x .answer ≡ a → 0 < numberOf a → Tells (step d x) (numberOf (step d x .answer)) [] d
+    go (Refused n) e h = record { number = refl; values = ap valuesOf e; leaves = refused-keeps d x n e }
     go (Ticket t) e h = absurd (omega arith)
     go Halved e h = absurd (omega arith)
     go Idle e h = absurd (omega arith)
     go (Shown n lo hi) e h = absurd (omega arith)
     go (State s) e h = absurd (omega arith)
     go Freed e h = absurd (omega arith)
+
+-- The number is that of the first test that fails, in the order of specs/Refusals.
+pub refused-in-order : (d : Desk) (x : Call) → numberOf (step d x .answer) ≡ firstOf (testsOf d x)
+refused-in-order = in-order

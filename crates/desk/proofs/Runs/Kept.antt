@@ -18,7 +18,7 @@ use Rattle.desk.specs.declared.Open.{Open}
 use Rattle.desk.specs.declared.Open.the-variants.{At, Closed}
 use Rattle.ledger.specs.Search.{bit}
 use Rattle.ledger.specs.Rows.{due, most, blank, row, counted, held, ofCaller, vacant, unfinished, tally, lowest, put}
-use Rattle.desk.specs.Model.{newDesk, answers, refuse, queryOf, bracketOf, settle, fresh, halvedRow, next, past, turnedAt, turnOf, openOf, emptied, peekAt, collectAt, withdrawAt, peekOf, collectOf, withdrawOf}
+use Rattle.desk.specs.Model.{newDesk, answers, refuse, fresh, halvedRow, next, past, turnedAt, turnOf, openOf, emptied, peekAt, collectAt, withdrawAt, peekOf, collectOf, withdrawOf}
 use Rattle.ledger.proofs.Search.{not-some, count-zero}
 use Rattle.ledger.proofs.Tests.{of-is, of-empty, held-is, held-empty, unfinished-is, Right}
 use Rattle.desk.proofs.Halved.{of-halved, held-halved}
@@ -194,7 +194,7 @@ effect d g (collect c t) = go (openOf d c t) refl
 
     go : (o : Open) → openOf d c t ≡ o → Effect d (collect c t) (collectAt d o .desk)
     go (Closed n) e = kept (collect c t) refl
-    go (At i) e = done i (open-seat d c t i e) (ltb (row d i .halvings) due) (settle (queryOf (row d i)) (bracketOf (row d i)))
+    go (At i) e = done i (open-seat d c t i e) (ltb (row d i .halvings) due) _
 effect d g (withdraw c t) = go (openOf d c t) refl
   where
     go : (o : Open) → openOf d c t ≡ o → Effect d (withdraw c t) (withdrawAt d o .desk)

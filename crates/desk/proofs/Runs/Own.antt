@@ -14,6 +14,7 @@ use Rattle.settle.specs.declared.Bracket.{Bracket}
 use Rattle.settle.specs.declared.Judged.the-variants.{Within}
 use Rattle.settle.specs.declared.Settled.{Settled}
 use Rattle.settle.specs.Settle.{judgedOf}
+use Rattle.ledger.specs.declared.Row.{Row}
 use Rattle.ledger.specs.declared.Desk.{Desk}
 use Rattle.desk.specs.declared.Outcome.{Outcome}
 use Rattle.desk.specs.declared.Answer.the-variants.{Ticket, Shown, State}
@@ -22,11 +23,11 @@ use Rattle.desk.specs.declared.Open.the-variants.{At, Closed}
 use Rattle.ledger.specs.Rows.{due, row, counted, held, ofCaller, vacant, tally, lowest}
 use Rattle.desk.specs.Model.{newDesk, answers, refuse, Query, queryOf, bracketOf, halve, settle, fresh, openOf, emptied, peekAt, collectAt, peekOf, collectOf}
 use Rattle.settle.proofs.Phases.{phase-kept}
-use Rattle.ledger.proofs.Tests.{held-is}
-use Rattle.ledger.proofs.Changes.{row-each}
+use Rattle.ledger.proofs.Tests.{held-is, is-held}
+use Rattle.ledger.proofs.Changes.{row-here, row-each}
 use Rattle.ledger.proofs.Good.{Good, good-sound}
 use Rattle.desk.proofs.Tickets.{Seat, open-seat, seat-open}
-use Rattle.desk.specs.Runs.{Call, post, peek, collect, step, afterFrom, after, answerTo, isTurn, turns, enough, OpenFor, times, asked, HalvedTo, SettledTo}
+use Rattle.desk.specs.Runs.{Call, post, peek, collect, step, afterFrom, after, answerTo, isTurn, turns, enough, OpenFor, times, asked, HalvedTo, JustPosted, SettledTo}
 use Rattle.desk.proofs.Runs.Round.{ahead-lt}
 use Rattle.desk.proofs.Runs.Posts.{Job, Ruling, against, given, Granted, rulingAt, seats, post-ruled, ruling-given}
 use Rattle.desk.proofs.Runs.Kept.{good-step, good-new, was-given, seat-free, counts-wide}
@@ -85,6 +86,41 @@ got d g c k p y t e = go (rulingAt d c k p y) refl
 -- the row of a job just posted names its query
 query-fresh : (c t : ℕ) (q : Query) (b : Bracket) → queryOf (fresh c t q b) ≡ q
 query-fresh c t q b = ap (λ (phase : Phase). asked (q .kind) phase (q .p) (q .y)) (phase-kept (q .phase))
+
+-- the count goes one on, and the row that was free holds what was asked
+pub post-row : (d : Desk) → Good d → (c k : ℕ) (p y : Float) (t : ℕ) → step d (post c k p y) .answer ≡ Ticket t
+    → (t ≡ counted d c)
+    × (counted (step d (post c k p y) .desk) c ≡ t + 1)
+    × ((o : OpenFor c t (step d (post c k p y) .desk)) × JustPosted k p y (row (step d (post c k p y) .desk) (o .0)))
+unfolding times
+post-row d g c k p y t e =
+    rw (o .leaves) (
+      sym (o .own),
+      getD-set-same (d .counts) c (counted d c + 1) 0 (counts-wide d g c k p y (o .job) (o .granted)) ∙ ap (λ (n : ℕ). n + 1) (o .own),
+      (
+        (i, l, rw here (is-held c new t refl refl (o .own))),
+        rw here (record {
+          none-yet = refl;
+          bracket = record { phase = o .job .query .phase; first = o .job .bracket; judgedTo = o .granted .judgedTo; halvings = refl };
+          query = query-fresh c (counted d c) (o .job .query) (o .job .bracket) ∙ o .granted .query;
+        }),
+      ),
+    )
+  where
+    o : Got d c k p y t
+    o = got d g c k p y t e
+
+    i : ℕ
+    i = lowest vacant d
+
+    l : i < 32
+    l = seat-free d g c k p y (o .job) (o .granted)
+
+    new : Row
+    new = fresh c (counted d c) (o .job .query) (o .job .bracket)
+
+    here : row (seats d c (o .job)) i ≡ new
+    here = row-here d i new (set (d .counts) c (counted d c + 1)) (d .pointer) (g .long) l
 
 pub tracked-fresh : (d : Desk) → Good d → (c k : ℕ) (p y : Float) (t : ℕ) (j : Job) → Granted c k p y (counted d c) (tally (ofCaller c) d) j → counted d c ≡ t → Tracked c t j 0 (seats d c j)
 unfolding times

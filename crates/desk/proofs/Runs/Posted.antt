@@ -86,6 +86,6 @@ open-posted c t run o = origins c [] run newDesk refl good-new none t (o .0) (o 
 pub patient-collects : (c : ℕ) (xs : List Call) → c < 8 → Patient c xs → CollectsGive c xs
 patient-collects c xs l w before rest t e o =
     let r = open-posted c t before o in
-    let n = w before rest t e o (r .pre) (r .since) (r .kind) (r .p) (r .y) (r .posted) in
+    let n = w before rest t e o r in
     subst (λ (b : List Call). (s : Settled) × (answerTo b (collect c t) ≡ State s)) (sym (r .posted .0))
     (collect-ready c t (r .kind) (r .p) (r .y) (r .pre) (r .since) l (r .posted .1) (subst (λ (b : List Call). OpenFor c t (after b)) (r .posted .0) o) n)

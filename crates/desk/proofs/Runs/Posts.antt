@@ -57,9 +57,9 @@ post-ruled d c k p y s = rw s (go (ltb c 8 && between 2 3 k) (judgedOf k p y) (l
         → cond b (judgedPost d c k p y j) (refuse 9 d) ≡ onRuling d c (cond b (ruledOn k p y (counted d c) (tally (ofCaller c) d) j) (against 9))
     go false j u v hu hv = refl
     go true (Refused n) u v hu hv = refl
-    go true (Within r lo hi) false v hu hv = rw hu
-    go true (Within r lo hi) true false hu hv = rw (hu, hv)
-    go true (Within r lo hi) true true hu hv = rw (hu, hv)
+    go true (Within r lo hi) false v hu hv = rw hu refl
+    go true (Within r lo hi) true false hu hv = rw (hu, hv) refl
+    go true (Within r lo hi) true true hu hv = rw (hu, hv) refl
 
 -- what a post that is granted has shown
 pub record Granted (c k : ℕ) (p y : Float) (n m : ℕ) (j : Job) : Type 0 where

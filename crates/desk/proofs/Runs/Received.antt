@@ -15,11 +15,11 @@ use Rattle.desk.specs.declared.Answer.the-variants.{Ticket, Shown}
 use Rattle.ledger.specs.Search.{bit}
 use Rattle.ledger.specs.Rows.{due, blank, row, counted, held, ofCaller, vacant, tally, lowest}
 use Rattle.desk.specs.Model.{newDesk, fresh, halvedRow, next, past, turnedAt}
-use Rattle.ledger.proofs.Search.{counted-once}
 use Rattle.ledger.proofs.Tests.{held-is, held-empty}
 use Rattle.desk.proofs.Halved.{held-halved}
 use Rattle.ledger.proofs.Changes.{row-each, counts-each}
 use Rattle.ledger.proofs.Good.{Good}
+use Rattle.desk.proofs.Tickets.{one-row}
 use Rattle.desk.specs.Runs.{Call, post, peek, step, afterFrom, after, answerTo, goesTo, received}
 use Rattle.desk.proofs.Runs.Posts.{Job, Granted, seats}
 use Rattle.desk.proofs.Runs.Kept.{Effect, kept, idled, turned, seated, freed, effect, good-step, held-fresh, seat-free, counts-wide, was-given}
@@ -30,16 +30,12 @@ module _ (c t : ℕ) where
     mine : t < counted d c
     has : (i : ℕ) → i < 32 → held c t (row d i) ≡ true → row d i .halvings ≡ h
 
-  only : (d : Desk) → Good d → (i j : ℕ) → i < 32 → j < 32 → held c t (row d i) ≡ true → held c t (row d j) ≡ true → i ≡ j
-  unfolding tally
-  only d g i j li lj = counted-once (λ k. held c t (row d k)) 32 i j (g .rows .once c t) li lj
-
   has-turned : (h : ℕ) (d : Desk) → Good d → Has h d → (j : ℕ) → j < 32 → Has (h + bit (held c t (row d j))) (turnedAt d j)
   unfolding halvedRow
   has-turned h d g o j l = go (held c t (row d j)) refl
     where
       old : (b : Bool) → held c t (row d j) ≡ b → (i : ℕ) → i < 32 → i ≢ j → held c t (row d i) ≡ true → row d i .halvings ≡ h + bit b
-      old true e i m ne q = absurd (ne (only d g i j m l q e))
+      old true e i m ne q = absurd (ne (one-row d g c t i j m l q e))
       old false e i m ne q = omega (arith, o .has i m q)
 
       go : (b : Bool) → held c t (row d j) ≡ b → Has (h + bit b) (turnedAt d j)

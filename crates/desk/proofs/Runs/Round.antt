@@ -21,6 +21,10 @@ past-round n = omega arith
 ahead-of : (n d : ℕ) → d < 32 → ahead (n % 32) ((n + d) % 32) ≡ d
 ahead-of n d h = omega arith
 
+-- d places on from the one just past a place
+past-ahead : (n d : ℕ) → d < 32 → ahead (past (n % 32)) ((n + 1 + d) % 32) ≡ d
+past-ahead n d h = rw (past-round n) (ahead-of (n + 1) d h)
+
 -- just past a place that is no farther on than i and is not i, the way to i is shorter
 pub ahead-next : (p i k : ℕ) → p < 32 → i < 32 → k ≤ ahead p i → i ≢ (p + k) % 32 → suc (ahead (past ((p + k) % 32)) i) ≤ ahead p i
 ahead-next p i k hp hi hk d = go (ahead p i) (ahead-lt p i) (sym (ahead-back p i hp hi)) hk
@@ -29,5 +33,4 @@ ahead-next p i k hp hi hk d = go (ahead p i) (ahead-lt p i) (sym (ahead-back p i
     go a l e h =
         let ne : a ≢ k = λ q. d (e ∙ ap (λ (x : ℕ). (p + x) % 32) q) in
         let m : p + a ≡ (p + k + 1) + (a - suc k) = omega arith in
-        let s : ahead ((p + k + 1) % 32) (((p + k + 1) + (a - suc k)) % 32) ≡ a - suc k = ahead-of (p + k + 1) (a - suc k) (omega arith) in
-        rw (past-round (p + k), e, m, s) (omega arith)
+        rw (e, m, past-ahead (p + k) (a - suc k) (omega arith)) (omega arith)

@@ -297,7 +297,7 @@ waited c t run rest d e w o =
       p = r .p;
       y = r .y;
       age = turns (r .since);
-      long = w run rest t refl o′ (r .pre) (r .since) (r .kind) (r .p) (r .y) (r .posted);
+      long = w run rest t refl o′ r;
       follows = subst (λ (v : Desk). Followed c t (r .kind) (r .p) (r .y) (turns (r .since)) v) (ap (λ (l : List Call). after l) (sym (r .posted .0)) ∙ e)
           (followed c t (r .kind) (r .p) (r .y) (r .pre) (r .since) (r .posted .1));
     }

@@ -1,12 +1,11 @@
 -- `desk::calls::peek` meets its contract: the refusal of the ticket, or what its row holds. Assumes nothing.
 use borrow.Author.Needs.{needs}
-use mathlib.Core.Path.{_≡_, sym, _∙_}
+use mathlib.Core.Path.{_≡_, refl, sym, _∙_}
 use Prim.Native.Nat.{_<_}
 use Rattle.desk.specs.declared.Open.the-variants.{At}
-use Rattle.ledger.proofs.Lists.{row-fits}
+use Rattle.ledger.proofs.Lists.{row-fits, row-is}
 use Rattle.desk.proofs.Tickets.{open-seat}
 use Rattle.desk.specs.Model.{openOf, peekOf, peekAt}
-use Rattle.desk.proofs.Ways.{peek-shows}
 use Rattle.desk.proofs.calls.peek.Statement.{statement}
 use Rattle.desk.proofs.calls.peek.Tie as tie
 
@@ -39,7 +38,10 @@ unfolding peekOf peekAt
 returns c = rw (← c .before .before .before .before .look-up .ensures, c .before .before .o .given .1) (c .refused .ensures)
 
 returns-2 : tie.Need-returns-2
-returns-2 c = let s = c .before .before .before .before .before in peek-shows (s .args .t1) _ (s .good .0) _ _ _ _ (opened (c .before .before))
+unfolding peekOf peekAt
+returns-2 c =
+    let s = c .before .before .before .before .before in
+    rw (opened (c .before .before), ← row-is (s .args .t1) _ (s .good .0) _ _ (inside (c .before .before))) refl
 
 pub peek-spec : {M : Type 1} → statement M
 peek-spec =

@@ -1,0 +1,106 @@
+-- A refused call leaves the desk as it was, and its number is that of the first test that fails: each call by its definition, test by test. Assumes nothing.
+use mathlib.Core.Path.{_≡_, refl}
+use mathlib.Core.Bool.{Bool, true, false, cond, not, _&&_}
+use mathlib.Core.List.{[], _∷_}
+use Prim.Native.Nat.{ℕ, _+_, _%_}
+use native.Mathlib.Omega.{arith}
+use lib.Dec.{ltb}
+use Rattle.settle.specs.declared.Judged.{Judged}
+use Rattle.settle.specs.declared.Judged.the-variants as Judged
+use Rattle.settle.specs.declared.Settled.{Settled}
+use Rattle.settle.specs.Settle.{judgedOf}
+use Rattle.ledger.specs.declared.Row.{Row}
+use Rattle.ledger.specs.declared.Desk.{Desk}
+use Rattle.desk.specs.declared.Answer.the-variants.{Refused, Ticket, Halved, Idle, State}
+use Rattle.desk.specs.declared.Open.{Open}
+use Rattle.desk.specs.declared.Open.the-variants.{At, Closed}
+use Rattle.ledger.specs.Rows.{due, most, row, counted, held, ofCaller, tally, lowest, between, sound}
+use Rattle.desk.specs.Answers.{numberOf}
+use Rattle.desk.specs.Model.{answers, refuse, fresh, seated, admitted, judgedPost, postOf, next, turnedAt, turnOf, openOf, emptied, peekAt, collectAt, withdrawAt, peekOf, collectOf, withdrawOf}
+use Rattle.desk.specs.Runs.{Call, post, turn, peek, collect, withdraw, step, asked}
+use Rattle.desk.specs.Refusals.{unless, firstOf, judged, testsOf}
+
+pub keeps : (d : Desk) (x : Call) (n : ℕ) → step d x .answer ≡ Refused n → step d x .desk ≡ d
+unfolding postOf judgedPost admitted turnOf peekOf collectOf withdrawOf peekAt collectAt withdrawAt
+keeps d (post c k p y) n = go (sound d) (ltb c 8) (between 2 3 k) (judgedOf k p y)
+  where
+    admits : (r : Row) (u v : Bool) → (cond u (cond v (answers (Ticket (r .ticket)) (seated d r)) (refuse 10 d)) (refuse 13 d)) .answer ≡ Refused n
+        → (cond u (cond v (answers (Ticket (r .ticket)) (seated d r)) (refuse 10 d)) (refuse 13 d)) .desk ≡ d
+    admits r false v e = refl
+    admits r true false e = refl
+    admits r true true e = absurd (let z : _≡_ {A = ℕ} 0 1 = cc in omega arith)
+
+    go : (u v w : Bool) (j : Judged) → (cond u (cond (v && w) (judgedPost d c k p y j) (refuse 9 d)) (refuse 15 d)) .answer ≡ Refused n
+        → (cond u (cond (v && w) (judgedPost d c k p y j) (refuse 9 d)) (refuse 15 d)) .desk ≡ d
+    go false v w j e = refl
+    go true false w j e = refl
+    go true true false j e = refl
+    go true true true (Judged.Refused m) e = refl
+    go true true true (Judged.Within r lo hi) e =
+        admits (fresh c (counted d c) (asked k r p y) (record { lo = lo; hi = hi })) (ltb (counted d c) most) (ltb (tally (ofCaller c) d) 4) e
+keeps d turn n = go (sound d) (ltb (next d) 32)
+  where
+    go : (u v : Bool) → (cond u (cond v (answers Halved (turnedAt d ((d .pointer + next d) % 32))) (answers Idle d)) (refuse 15 d)) .answer ≡ Refused n
+        → (cond u (cond v (answers Halved (turnedAt d ((d .pointer + next d) % 32))) (answers Idle d)) (refuse 15 d)) .desk ≡ d
+    go false v e = refl
+    go true true e = absurd (let z : _≡_ {A = ℕ} 0 1 = cc in omega arith)
+    go true false e = refl
+keeps d (peek c t) n = go (openOf d c t)
+  where
+    go : (o : Open) → peekAt d o .answer ≡ Refused n → peekAt d o .desk ≡ d
+    go (Closed m) e = refl
+    go (At i) e = refl
+keeps d (collect c t) n = go (openOf d c t)
+  where
+    done : (i : ℕ) (b : Bool) (v : Settled) → (cond b (refuse 12 d) (answers (State v) (emptied d i))) .answer ≡ Refused n
+        → (cond b (refuse 12 d) (answers (State v) (emptied d i))) .desk ≡ d
+    done i true v e = refl
+    done i false v e = absurd (let z : _≡_ {A = ℕ} 0 1 = cc in omega arith)
+
+    go : (o : Open) → collectAt d o .answer ≡ Refused n → collectAt d o .desk ≡ d
+    go (Closed m) e = refl
+    go (At i) e = done i (ltb (row d i .halvings) due) _ e
+keeps d (withdraw c t) n = go (openOf d c t)
+  where
+    go : (o : Open) → withdrawAt d o .answer ≡ Refused n → withdrawAt d o .desk ≡ d
+    go (Closed m) e = refl
+    go (At i) e = absurd (let z : _≡_ {A = ℕ} 0 1 = cc in omega arith)
+
+-- ---- the order
+
+-- a ticket's row is looked for after two tests
+ticket-order : (d : Desk) (c t : ℕ) (u v w : Bool) (rest : ℕ) (f : Open → ℕ) → ((n : ℕ) → f (Closed n) ≡ n) → f (At (lowest (held c t) d)) ≡ rest
+    → f (cond u (cond v (cond w (At (lowest (held c t) d)) (Closed 11)) (Closed 9)) (Closed 15)) ≡ cond u (cond v (cond w rest 11) 9) 15
+ticket-order d c t false v w rest f h e = h 15
+ticket-order d c t true false w rest f h e = h 9
+ticket-order d c t true true false rest f h e = h 11
+ticket-order d c t true true true rest f h e = e
+
+pub in-order : (d : Desk) (x : Call) → numberOf (step d x .answer) ≡ firstOf (testsOf d x)
+unfolding postOf judgedPost admitted turnOf openOf peekOf collectOf withdrawOf peekAt collectAt withdrawAt firstOf
+in-order d (post c k p y) = go (sound d) (ltb c 8 && between 2 3 k) (judgedOf k p y) (ltb (counted d c) most) refl (ltb (tally (ofCaller c) d) 4) refl
+  where
+    go : (u v : Bool) (j : Judged) (a : Bool) → ltb (counted d c) most ≡ a → (b : Bool) → ltb (tally (ofCaller c) d) 4 ≡ b
+        → numberOf ((cond u (cond v (judgedPost d c k p y j) (refuse 9 d)) (refuse 15 d)) .answer)
+        ≡ firstOf (unless u 15 ∷ unless v 9 ∷ judged j ∷ unless (ltb (counted d c) most) 13 ∷ unless (ltb (tally (ofCaller c) d) 4) 10 ∷ [])
+    go false v j a ha b hb = refl
+    go true false j a ha b hb = refl
+    go true true (Judged.Refused n) a ha b hb = refl
+    go true true (Judged.Within r lo hi) false ha b hb = rw ha refl
+    go true true (Judged.Within r lo hi) true ha false hb = rw (ha, hb) refl
+    go true true (Judged.Within r lo hi) true ha true hb = rw (ha, hb) refl
+in-order d turn = go (sound d) (ltb (next d) 32)
+  where
+    go : (u v : Bool) → numberOf ((cond u (cond v (answers Halved (turnedAt d ((d .pointer + next d) % 32))) (answers Idle d)) (refuse 15 d)) .answer) ≡ firstOf (unless u 15 ∷ [])
+    go false v = refl
+    go true false = refl
+    go true true = refl
+in-order d (peek c t) = ticket-order d c t (sound d) (ltb c 8) (ltb (lowest (held c t) d) 32) 0 (λ o. numberOf (peekAt d o .answer)) (λ n. refl) refl
+in-order d (collect c t) =
+    ticket-order d c t (sound d) (ltb c 8) (ltb (lowest (held c t) d) 32) _ (λ o. numberOf (collectAt d o .answer)) (λ n. refl)
+    (ready (ltb (row d (lowest (held c t) d) .halvings) due) _)
+  where
+    ready : (b : Bool) (s : Settled) → numberOf ((cond b (refuse 12 d) (answers (State s) (emptied d (lowest (held c t) d)))) .answer) ≡ cond (not b) 0 12
+    ready true s = refl
+    ready false s = refl
+in-order d (withdraw c t) = ticket-order d c t (sound d) (ltb c 8) (ltb (lowest (held c t) d) 32) 0 (λ o. numberOf (withdrawAt d o .answer)) (λ n. refl) refl

@@ -1,0 +1,42 @@
+-- What an answer of the desk says in the paper's words: its number, and the values that it hands out. Definitions only.
+use mathlib.Core.Path.{_≡_}
+use mathlib.Core.List.{List, [], _∷_}
+use Prim.Native.Nat.{ℕ}
+use lib.Ieee.{Float}
+use Rattle.ledger.specs.declared.Desk.{Desk}
+use Rattle.settle.specs.declared.Settled.{Settled}
+use Rattle.desk.specs.declared.Answer.{Answer}
+use Rattle.desk.specs.declared.Answer.the-variants as Answer
+use Rattle.desk.specs.declared.Outcome.{Outcome}
+
+-- the refusal, 0 if there is none
+abbrev pub numberOf : Answer → ℕ
+numberOf (Answer.Refused n) = n
+numberOf (Answer.Ticket t) = 0
+numberOf Answer.Halved = 0
+numberOf Answer.Idle = 0
+numberOf (Answer.Shown n lo hi) = 0
+numberOf (Answer.State s) = 0
+numberOf Answer.Freed = 0
+
+-- a ticket or a number of halvings, an end of a bracket in K, a state with its mark
+pub data Value : Type 0 where
+  whole : ℕ → Value
+  kelvin : Float → Value
+  state : Settled → Value
+
+-- a post hands out its ticket, a peek the halvings done, lo and hi, a collect the state; a turn, a withdraw and a refusal hand out nothing
+abbrev pub valuesOf : Answer → List Value
+valuesOf (Answer.Refused n) = []
+valuesOf (Answer.Ticket t) = whole t ∷ []
+valuesOf Answer.Halved = []
+valuesOf Answer.Idle = []
+valuesOf (Answer.Shown n lo hi) = whole n ∷ kelvin lo ∷ kelvin hi ∷ []
+valuesOf (Answer.State s) = state s ∷ []
+valuesOf Answer.Freed = []
+
+-- a call that answers the number n and hands out the values vs leaves the desk d
+pub record Tells (o : Outcome) (n : ℕ) (vs : List Value) (d : Desk) : Type 0 where
+  pub number : numberOf (o .answer) ≡ n
+  pub values : valuesOf (o .answer) ≡ vs
+  pub leaves : o .desk ≡ d
