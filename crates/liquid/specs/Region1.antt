@@ -60,13 +60,20 @@ table1 =
 unfoldable pub point1 : Float → Float → Point
 point1 p t = reducedBy (printed false 461526 (less 6)) (printed false 1653 (less 2)) (f64 1386) p t
 
--- The sum of Eq. (15), or its derivative of the orders asked: A = 7.1 - π, B = τ - 1.222
+-- The arguments of Eq. (15), A = 7.1 - π and B = τ - 1.222
+abbrev pub A1 : Point → Float
+A1 x = printed false 71 (less 1) ⊖ x .pi
+
+abbrev pub B1 : Point → Float
+B1 x = x .tau ⊖ printed false 1222 (less 3)
+
+-- Its sum, or the derivative of the orders asked
 unfoldable pub sum1 : Point → ℕ → ℕ → Float
-sum1 x da db = sumOf table1 da db (printed false 71 (less 1) ⊖ x .pi) (x .tau ⊖ printed false 1222 (less 3))
+sum1 x da db = sumOf table1 da db (A1 x) (B1 x)
 
 -- all six of them
 abbrev pub six1 : Point → Six
-six1 x = sixOf table1 (printed false 71 (less 1) ⊖ x .pi) (x .tau ⊖ printed false 1222 (less 3))
+six1 x = sixOf table1 (A1 x) (B1 x)
 
 -- Eq. (15) and Table 3: the inner sign of 7.1 - π negates the finished sum once for each derivative by π, so γππ twice, which leaves it as it is
 unfoldable pub gamma1 : Float → Float → Liquid

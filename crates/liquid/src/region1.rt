@@ -137,6 +137,11 @@ impl Region1 {
     // The reducing temperature T* in K.
     pub const T: f64 = 1386.0;
 
+    // What Eq. (15) takes π from, and what it takes from τ.
+    const PI_SHIFT: f64 = 7.1;
+
+    const TAU_SHIFT: f64 = 1.222;
+
     // π and τ, beside what they are made of.
     pub fn point(p: f64, t: f64) -> Point
         ensures { λ r. ⌜ r ≡ point1 p t ⌝ }
@@ -149,19 +154,19 @@ impl Region1 {
     fn six(x: Point) -> Six
         ensures { λ r. ⌜ r ≡ six1 x ⌝ }
     {
-        terms::six_sums(&N, &I, &J, 7.1 - x.pi, x.tau - 1.222)
+        terms::six_sums(&N, &I, &J, Self::PI_SHIFT - x.pi, x.tau - Self::TAU_SHIFT)
     }
 
     fn slope(x: Point) -> f64
         ensures { λ r. ⌜ r ≡ sum1 x 0 1 ⌝ }
     {
-        terms::slope(&N, &I, &J, 7.1 - x.pi, x.tau - 1.222)
+        terms::slope(&N, &I, &J, Self::PI_SHIFT - x.pi, x.tau - Self::TAU_SHIFT)
     }
 
     fn both(x: Point) -> Six
         ensures { λ r. ⌜ r ≡ six1 x ⌝ }
     {
-        terms::six_sums(&N, &I, &J, 7.1 - x.pi, x.tau - 1.222)
+        terms::six_sums(&N, &I, &J, Self::PI_SHIFT - x.pi, x.tau - Self::TAU_SHIFT)
     }
 
     // γ and its derivatives, of which each by π turns the sign of the sum in 7.1 - π.

@@ -37,14 +37,29 @@ n₉ = minus 23855557567849 (pos 0)
 abbrev n₁₀ : Float
 n₁₀ = plus 65017534844798 (pos 3)
 
+-- The coefficients of Eq. (28), quadratics in θ
+abbrev A : Float → Float
+A θ = θ ⊗ θ ⊕ n₁ ⊗ θ ⊕ n₂
+
+abbrev B : Float → Float
+B θ = n₃ ⊗ (θ ⊗ θ) ⊕ n₄ ⊗ θ ⊕ n₅
+
+abbrev C : Float → Float
+C θ = n₆ ⊗ (θ ⊗ θ) ⊕ n₇ ⊗ θ ⊕ n₈
+
+-- what its root is taken of
+abbrev pub discriminant : Float → Float
+discriminant θ = B θ ⊗ B θ ⊖ f64 4 ⊗ A θ ⊗ C θ
+
+-- θ of T
+abbrev pub θOf : Float → Float
+θOf t = t ⊕ n₉ ⊘ (t ⊖ n₁₀)
+
 -- Eq. (28), in MPa for T in K
 unfoldable pub psOf : Float → Float
 psOf t =
-    let θ = t ⊕ n₉ ⊘ (t ⊖ n₁₀) in
-    let A = θ ⊗ θ ⊕ n₁ ⊗ θ ⊕ n₂ in
-    let B = n₃ ⊗ (θ ⊗ θ) ⊕ n₄ ⊗ θ ⊕ n₅ in
-    let C = n₆ ⊗ (θ ⊗ θ) ⊕ n₇ ⊗ θ ⊕ n₈ in
-    let x = f64 2 ⊗ C ⊘ (neg B ⊕ rootOf (B ⊗ B ⊖ f64 4 ⊗ A ⊗ C)) in
+    let θ = θOf t in
+    let x = f64 2 ⊗ C θ ⊘ (neg (B θ) ⊕ rootOf (discriminant θ)) in
     x ⊗ x ⊗ x ⊗ x
 
 -- Eq. (55), in K for p in MPa

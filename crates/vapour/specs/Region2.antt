@@ -6,10 +6,9 @@ use lib.Ieee.{Float}
 use Rattle.arith.specs.F64.{f64, _⊖_}
 use Rattle.arith.specs.Printed.{less, printed}
 use Rattle.terms.specs.Sum.{Term, row}
-use Rattle.terms.specs.Six.{sixOf}
 use Rattle.arith.specs.Coefficients.{plus, minus}
 use Rattle.properties.specs.Properties.{reducedBy, rootedOf}
-use Rattle.vapour.specs.Vapour.{vapourOf, vapourUnrooted, vapourResponse}
+use Rattle.vapour.specs.Vapour.{vapourAt, vapourUnrooted, vapourResponse}
 use Rattle.properties.specs.declared.State.{State}
 use Rattle.properties.specs.declared.Unrooted.{Unrooted}
 use Rattle.properties.specs.declared.Response.{Response}
@@ -82,9 +81,12 @@ residual2 =
 unfoldable pub point2 : Float → Float → Point
 point2 p t = reducedBy (printed false 461526 (less 6)) (f64 1) (f64 540) p t
 
--- The ideal-gas part is summed at τ, the residual part at π and τ - 0.5.
+-- The residual part is summed at π and τ - 0.5.
+abbrev pub shifted2 : Float → Float
+shifted2 τ = τ ⊖ printed false 5 (less 1)
+
 unfoldable pub gamma2 : Float → Float → Vapour
-gamma2 p t = let x = point2 p t in vapourOf (x .pi) (sixOf ideal2 (x .pi) (x .tau)) (sixOf residual2 (x .pi) (x .tau ⊖ printed false 5 (less 1)))
+gamma2 p t = vapourAt ideal2 residual2 shifted2 (point2 p t)
 
 -- Table 4
 unfoldable pub unrootedOf2 : Float → Float → Vapour → Unrooted

@@ -6,10 +6,9 @@ use lib.Ieee.{Float}
 use Rattle.arith.specs.F64.{f64}
 use Rattle.arith.specs.Printed.{less, printed}
 use Rattle.terms.specs.Sum.{Term, row}
-use Rattle.terms.specs.Six.{sixOf}
 use Rattle.arith.specs.Coefficients.{plus, minus}
 use Rattle.properties.specs.Properties.{reducedBy, rootedOf}
-use Rattle.vapour.specs.Vapour.{vapourOf, vapourUnrooted, vapourResponse}
+use Rattle.vapour.specs.Vapour.{vapourAt, vapourUnrooted, vapourResponse}
 use Rattle.properties.specs.declared.State.{State}
 use Rattle.properties.specs.declared.Unrooted.{Unrooted}
 use Rattle.properties.specs.declared.Response.{Response}
@@ -41,9 +40,9 @@ residual5 =
 unfoldable pub point5 : Float → Float → Point
 point5 p t = reducedBy (printed false 461526 (less 6)) (f64 1) (f64 1000) p t
 
--- The ideal-gas part is summed at τ, the residual part at π and τ.
+-- The residual part is summed at π and τ, with no shift.
 unfoldable pub gamma5 : Float → Float → Vapour
-gamma5 p t = let x = point5 p t in vapourOf (x .pi) (sixOf ideal5 (x .pi) (x .tau)) (sixOf residual5 (x .pi) (x .tau))
+gamma5 p t = vapourAt ideal5 residual5 (λ τ. τ) (point5 p t)
 
 -- Table 4
 unfoldable pub unrootedOf5 : Float → Float → Vapour → Unrooted

@@ -1,8 +1,11 @@
 -- What regions 2 and 5 share: 002, Eqs. (19) and (29), Tables 4 to 6, 11 and 12. γ is the sum of an ideal-gas part and a residual part. The thermal
 -- expansion and the compressibility are those of 001. Definitions only.
+use mathlib.Core.List.{List}
 use lib.Ieee.{Float}
 use Rattle.arith.specs.F64.{f64, _⊕_, _⊖_, _⊗_, _⊘_}
 use Rattle.arith.specs.Log.{logOf}
+use Rattle.terms.specs.Sum.{Term}
+use Rattle.terms.specs.Six.{sixOf}
 use Rattle.terms.specs.declared.Six.{Six}
 use Rattle.properties.specs.Properties.{unrootedOf}
 use Rattle.properties.specs.declared.Unrooted.{Unrooted}
@@ -25,6 +28,10 @@ vapourOf π ideal residual = record {
   rpp = residual .faa;
   rpt = residual .fab;
 }
+
+-- γ at a point, from a region's two tables: the ideal-gas part is summed at π and τ, the residual part at π and its own shift of τ.
+abbrev pub vapourAt : (ideal residual : List Term) → (Float → Float) → Point → Vapour
+vapourAt ideal residual shifted x = vapourOf (x .pi) (sixOf ideal (x .pi) (x .tau)) (sixOf residual (x .pi) (shifted (x .tau)))
 
 -- Table 4. w²/RT = (1 + 2·π·γʳπ + π²·γʳπ²) / ((1 - π²·γʳππ) + (1 + π·γʳπ - τ·π·γʳπτ)² / (τ²·γττ))
 unfoldable pub vapourUnrooted : Point → Vapour → Unrooted

@@ -15,12 +15,9 @@ use properties::reduced;
 use properties::rooted;
 use terms::Six;
 ghost use mathlib.Core.Path.{_≡_};
-ghost use mathlib.Core.Bool.{false};
-ghost use Rattle.arith.specs.F64.{_⊖_};
-ghost use Rattle.arith.specs.Printed.{less, printed};
 ghost use Rattle.terms.specs.Sum.{sumOf};
 ghost use Rattle.terms.specs.Six.{sixOf};
-ghost use Rattle.vapour.specs.Region2.{ideal2, residual2, point2, gamma2, unrootedOf2, stateOf2, state2, responseOf2, h2, s2};
+ghost use Rattle.vapour.specs.Region2.{ideal2, residual2, shifted2, point2, gamma2, unrootedOf2, stateOf2, state2, responseOf2, h2, s2};
 
 const IDEAL_I: [i8; 9] = [0, 0, 0, 0, 0, 0, 0, 0, 0];
 
@@ -189,6 +186,9 @@ impl Region2 {
     // The reducing temperature T* in K.
     pub const T: f64 = 540.0;
 
+    // What the residual part takes from τ.
+    const TAU_SHIFT: f64 = 0.5;
+
     // π and τ, beside what they are made of.
     pub fn point(p: f64, t: f64) -> Point
         ensures { λ r. ⌜ r ≡ point2 p t ⌝ }
@@ -218,21 +218,39 @@ impl Region2 {
 
     // The same of the sum of the residual part.
     fn residual_six(x: Point) -> Six
-        ensures { λ r. ⌜ r ≡ sixOf residual2 (x .pi) (x .tau ⊖ printed false 5 (less 1)) ⌝ }
+        ensures { λ r. ⌜ r ≡ sixOf residual2 (x .pi) (shifted2 (x .tau)) ⌝ }
     {
-        terms::six_sums(&RESIDUAL_N, &RESIDUAL_I, &RESIDUAL_J, x.pi, x.tau - 0.5)
+        terms::six_sums(
+            &RESIDUAL_N,
+            &RESIDUAL_I,
+            &RESIDUAL_J,
+            x.pi,
+            x.tau - Self::TAU_SHIFT,
+        )
     }
 
     fn residual_slope(x: Point) -> f64
-        ensures { λ r. ⌜ r ≡ sumOf residual2 0 1 (x .pi) (x .tau ⊖ printed false 5 (less 1)) ⌝ }
+        ensures { λ r. ⌜ r ≡ sumOf residual2 0 1 (x .pi) (shifted2 (x .tau)) ⌝ }
     {
-        terms::slope(&RESIDUAL_N, &RESIDUAL_I, &RESIDUAL_J, x.pi, x.tau - 0.5)
+        terms::slope(
+            &RESIDUAL_N,
+            &RESIDUAL_I,
+            &RESIDUAL_J,
+            x.pi,
+            x.tau - Self::TAU_SHIFT,
+        )
     }
 
     fn residual_both(x: Point) -> Six
-        ensures { λ r. ⌜ r ≡ sixOf residual2 (x .pi) (x .tau ⊖ printed false 5 (less 1)) ⌝ }
+        ensures { λ r. ⌜ r ≡ sixOf residual2 (x .pi) (shifted2 (x .tau)) ⌝ }
     {
-        terms::six_sums(&RESIDUAL_N, &RESIDUAL_I, &RESIDUAL_J, x.pi, x.tau - 0.5)
+        terms::six_sums(
+            &RESIDUAL_N,
+            &RESIDUAL_I,
+            &RESIDUAL_J,
+            x.pi,
+            x.tau - Self::TAU_SHIFT,
+        )
     }
 
     // γ and its derivatives.

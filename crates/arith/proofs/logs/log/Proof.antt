@@ -16,13 +16,17 @@ use Rattle.arith.proofs.logs.log.Tie as tie
 summed : (p : Parts) (m e : Float) → m ≡ p .m → e ≡ ofInt binary64 (p .e) → logSum m e ≡ logSum (p .m) (ofInt binary64 (p .e))
 summed p m e h k = cc
 
+-- from the second test back
+abbrev start : tie.Then2 → tie.Start
+start c = c .before .before
+
 float-to-bits-b : tie.Need-float-to-bits-b
 unfolding ofBits
 float-to-bits-b c = no-nan (c .before .args .x) (c .if1 .taken)
 
 returns : tie.Need-returns
 returns c =
-    let S = c .before .before .before in
+    let S = start (c .before) in
     nan-is ∙ sym (log-small (toBits binary64 (S .args .x)) (c .if3 .taken)) ∙ ap logOf (own (S .args .x) (S .good .0 .1))
 
 sub-k : tie.Need-sub-k
@@ -42,7 +46,8 @@ log-sum-requires c κs = search needs
 
 returns-2 : tie.Need-returns-2
 returns-2 c =
-    let S = c .before .before .before .before .before .before in
+    let four = c .before .before in
+    let S = start (four .before .before) in
     let b = toBits binary64 (S .args .x) in
     let f = 2 ^ 52 + b % 2 ^ 52 in
     let k = b / 2 ^ 52 - 1 in
@@ -66,7 +71,8 @@ log-sum-requires-2 c κs = search needs
 
 returns-3 : tie.Need-returns-3
 returns-3 c =
-    let S = c .before .before .before .before .before .before in
+    let four = c .before .before in
+    let S = start (four .before .before) in
     let b = toBits binary64 (S .args .x) in
     let f = 2 ^ 52 + b % 2 ^ 52 in
     let k = b / 2 ^ 52 - 1 in

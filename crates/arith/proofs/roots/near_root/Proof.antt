@@ -94,13 +94,15 @@ add-result c = omega arith
 
 returns : tie.Need-returns Inv-loop μ-loop
 returns c =
-    let z = c .before .before .loop in
-    sym (near-up (c .before .before .before .args .m * 4 ^ 26) (z .q) (z .rem) (omega arith) (whole (z .inv) (c .before .loop-test .left)) (z .inv .left) (c .if2 .taken))
+    let l = c .before .before in
+    let z = l .loop in
+    sym (near-up (l .before .args .m * 4 ^ 26) (z .q) (z .rem) (omega arith) (whole (z .inv) (c .before .loop-test .left)) (z .inv .left) (c .if2 .taken))
 
 returns-2 : tie.Need-returns-2 Inv-loop μ-loop
 returns-2 c =
-    let z = c .before .before .loop in
-    sym (near-down (c .before .before .before .args .m * 4 ^ 26) (z .q) (z .rem) (omega arith) (whole (z .inv) (c .before .loop-test .left)) (z .inv .left) (c .if2 .left))
+    let l = c .before .before in
+    let z = l .loop in
+    sym (near-down (l .before .args .m * 4 ^ 26) (z .q) (z .rem) (omega arith) (whole (z .inv) (c .before .loop-test .left)) (z .inv .left) (c .if2 .left))
 
 pub near-root-spec : {M : Type 1} → statement M
 near-root-spec = tie.close (tie.spec Inv-loop μ-loop loop-holds mul-a mul-rem add-rem mul-q mul-if1 mul-rem-2 add-rem-2 sub-rem add-q add-i loop-less loop-again add-result returns returns-2)

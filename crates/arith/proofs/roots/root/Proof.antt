@@ -20,7 +20,7 @@ float-from-bits-result : tie.Need-float-from-bits-result
 float-from-bits-result c = no-nan-bits (c .root-bits .result) (omega (arith, c .root-bits .ensures .0))
 
 returns : tie.Need-returns
-returns c = c .root-bits .ensures .1 ∙ ap rootOf (own (c .before .before .before .args .x) (c .before .before .before .good .0 .1))
+returns c = let s = c .before .before .before in c .root-bits .ensures .1 ∙ ap rootOf (own (s .args .x) (s .good .0 .1))
 
 returns-2 : tie.Need-returns-2
 returns-2 c =

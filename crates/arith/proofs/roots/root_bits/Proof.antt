@@ -118,26 +118,33 @@ guess-requires c κs = omega arith
 quick-root-requires : tie.Need-quick-root-requires Inv-loop μ-loop
 quick-root-requires c κs = omega arith
 
+-- where the loop ended, and before it the branch that gave k
+abbrev looped : tie.After-quick-root Inv-loop μ-loop → tie.At-loop Inv-loop μ-loop
+looped c = c .before .before .before
+
+abbrev branched : tie.At-loop Inv-loop μ-loop → tie.Joined1 Inv-loop μ-loop
+branched c = c .before .before
+
 sized : (c : tie.After-quick-root Inv-loop μ-loop) → (2 ^ 52 ≤ c .quick-root .result) × (c .quick-root .result < 2 ^ 53)
-sized c = rw (c .quick-root .ensures) (near-size (c .before .before .before .loop .m * 4 ^ 26) (omega arith) (omega arith))
+sized c = rw (c .quick-root .ensures) (near-size (looped c .loop .m * 4 ^ 26) (omega arith) (omega arith))
 
 add-result-2 : tie.Need-add-result-2 Inv-loop μ-loop
 add-result-2 c = omega (arith, sized c)
 
 returns : tie.Need-returns Inv-loop μ-loop
 returns c =
-    let b = c .before .before .before .before .before .before .args .b in
-    let j = c .before .before .before .before .before in
+    let j = branched (looped c) in
+    let b = j .before .args .b in
     let k = j .if1 .k in
     let f = b - k * 2 ^ 52 in
-    let l = c .before .before .before .loop in
+    let l = looped c .loop in
     let r = c .quick-root .result in (
       omega (arith, sized c),
       read ((485 + l .d) * 2 ^ 52 + r) (485 + l .d) r (omega (arith, sized c)) (omega (arith, sized c)) (omega arith)
           ∙ ap (λ z. odd 53 false z (485 + l .d) 1074) (c .quick-root .ensures)
           ∙ sym (units-are (f * 2 ^ k) (l .m) (l .d) (l .inv .same) (c .before .before .loop-test .left) (omega arith))
           ∙ sym (by-units (odd 53 false f k 1074) (f * 2 ^ k) (odd-sign 53 false f k 1074) (l .inv .some))
-          ∙ ap rootOf (sym (read b k f (omega (arith, c .before .before .before .before .before .before .pre)) (field j) refl)),
+          ∙ ap rootOf (sym (read b k f (omega (arith, j .before .pre)) (field j) refl)),
     )
 
 pub root-bits-spec : {M : Type 1} → statement M

@@ -29,12 +29,22 @@ square-less q h =
     let e : q ≡ q - 1 + 1 = omega arith in
     ap (λ z. z * z) e ∙ square-suc (q - 1)
 
-left : (c : tie.After-wrapping-sub-u643) → Lent (c .before .before .before .before .before .before .args .m) (c .before .before .before .before .before .before .args .q) (c .before .before .wrapping-sub-u642 .result)
+-- from a step of the three to the one before it, and from the first to the start
+abbrev second : tie.After-wrapping-sub-u643 → tie.After-wrapping-sub-u642
+second c = c .before .before
+
+abbrev first : tie.After-wrapping-sub-u642 → tie.After-wrapping-sub-u64
+first c = c .before .before
+
+abbrev start : tie.After-wrapping-sub-u64 → tie.Start
+start c = c .before .before
+
+left : (c : tie.After-wrapping-sub-u643) → let x = start (first (second c)) .args in Lent (x .m) (x .q) (second c .wrapping-sub-u642 .result)
 left c =
-    let x = c .before .before .before .before .before .before .args in
-    let a = c .before .before .before .before .wrapping-sub-u64 in
-    let b = c .before .before .wrapping-sub-u642 in
-    lent (x .m) (x .q) (a .result) (b .result) (omega arith) (omega arith) (omega arith) (omega arith) (a .ensures) (b .ensures)
+    let b = second c in
+    let a = first b in
+    let x = start a .args in
+    lent (x .m) (x .q) (a .wrapping-sub-u64 .result) (b .wrapping-sub-u642 .result) (omega arith) (omega arith) (omega arith) (omega arith) (a .wrapping-sub-u64 .ensures) (b .wrapping-sub-u642 .ensures)
 
 returns : tie.Need-returns
 returns c = search needs
@@ -58,7 +68,7 @@ mul-wrapping-sub-u64-3 : tie.Need-mul-wrapping-sub-u64-3
 mul-wrapping-sub-u64-3 c = search needs
 
 mul-wrapping-sub-u64-4 : tie.Need-mul-wrapping-sub-u64-4
-mul-wrapping-sub-u64-4 c = let q = c .before .before .before .args .q in omega (arith, short (q / 2 ^ 27) (q % 2 ^ 27) (omega arith) (omega arith))
+mul-wrapping-sub-u64-4 c = let q = start (c .before) .args .q in omega (arith, short (q / 2 ^ 27) (q % 2 ^ 27) (omega arith) (omega arith))
 
 wrapping-sub-u64-requires-2 : tie.Need-wrapping-sub-u64-requires-2
 wrapping-sub-u64-requires-2 c κs = search needs
@@ -73,10 +83,10 @@ add-wrapping-sub-u64-2 : tie.Need-add-wrapping-sub-u64-2
 add-wrapping-sub-u64-2 c = search needs
 
 mul-wrapping-sub-u64-6 : tie.Need-mul-wrapping-sub-u64-6
-mul-wrapping-sub-u64-6 c = let q = c .before .before .before .before .before .args .q in omega (arith, short (q % 2 ^ 27) (q % 2 ^ 27) (omega arith) (omega arith))
+mul-wrapping-sub-u64-6 c = let q = start (first (c .before)) .args .q in omega (arith, short (q % 2 ^ 27) (q % 2 ^ 27) (omega arith) (omega arith))
 
 add-wrapping-sub-u64-3 : tie.Need-add-wrapping-sub-u64-3
-add-wrapping-sub-u64-3 c = let q = c .before .before .before .before .before .args .q in omega (arith, short (q % 2 ^ 27) (q % 2 ^ 27) (omega arith) (omega arith))
+add-wrapping-sub-u64-3 c = let q = start (first (c .before)) .args .q in omega (arith, short (q % 2 ^ 27) (q % 2 ^ 27) (omega arith) (omega arith))
 
 wrapping-sub-u64-requires-3 : tie.Need-wrapping-sub-u64-requires-3
 wrapping-sub-u64-requires-3 c κs = search needs
@@ -86,8 +96,9 @@ mul-if4 c = search needs
 
 returns-4 : tie.Need-returns-4
 returns-4 c =
-    let x = c .before .before .before .before .before .before .before .args in
-    λ _. sym (near-at (x .m * 4 ^ 26) (x .q) (omega arith) (omega (arith, left (c .before))) (omega (arith, left (c .before))))
+    let t = c .before in
+    let x = start (first (second t)) .args in
+    λ _. sym (near-at (x .m * 4 ^ 26) (x .q) (omega arith) (omega (arith, left t)) (omega (arith, left t)))
 
 mul-if5 : tie.Need-mul-if5
 mul-if5 c = search needs
@@ -100,8 +111,9 @@ add-result c = search needs
 
 returns-5 : tie.Need-returns-5
 returns-5 c =
-    let x = c .before .before .before .before .before .before .before .before .args in
-    λ _. sym (near-at (x .m * 4 ^ 26) (x .q + 1) (omega arith) (omega (arith, left (c .before .before), square-suc (x .q))) (omega (arith, left (c .before .before), square-suc (x .q))))
+    let t = c .before .before in
+    let x = start (first (second t)) .args in
+    λ _. sym (near-at (x .m * 4 ^ 26) (x .q + 1) (omega arith) (omega (arith, left t, square-suc (x .q))) (omega (arith, left t, square-suc (x .q))))
 
 sub-if6 : tie.Need-sub-if6
 sub-if6 c = search needs
@@ -117,8 +129,9 @@ sub-result c = search needs
 
 returns-6 : tie.Need-returns-6
 returns-6 c =
-    let x = c .before .before .before .before .before .before .before .before .before .args in
-    λ _. sym (near-at (x .m * 4 ^ 26) (x .q - 1) (omega arith) (omega (arith, left (c .before .before .before), square-less (x .q) (omega arith))) (omega (arith, left (c .before .before .before), square-less (x .q) (omega arith))))
+    let t = c .before .before .before in
+    let x = start (first (second t)) .args in
+    λ _. sym (near-at (x .m * 4 ^ 26) (x .q - 1) (omega arith) (omega (arith, left t, square-less (x .q) (omega arith))) (omega (arith, left t, square-less (x .q) (omega arith))))
 
 returns-7 : tie.Need-returns-7
 returns-7 c = search needs

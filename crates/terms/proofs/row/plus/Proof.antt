@@ -26,10 +26,10 @@ by-j : (c : tie.After-gone2) → let s = c .before .before .before in gone (s .a
 by-j c = let s = c .before .before .before in ap (λ (z : ℤ). gone z (s .args .db)) (sym (toZ-ofZ (s .fits .j))) ∙ sym (c .gone2 .ensures)
 
 returns-2 : tie.Need-returns-2
-returns-2 c = rw (by-i (c .before .before .before), c .before .before .if1 .left, by-j (c .before), c .if2 .taken) refl
+returns-2 c = let kept = c .before .before in rw (by-i (kept .before), kept .if1 .left, by-j (c .before), c .if2 .taken) refl
 
 returns-3 : tie.Need-returns-3
-returns-3 c = rw (by-i (c .before .before .before), c .before .before .if1 .left, by-j (c .before), c .if2 .left) refl
+returns-3 c = let kept = c .before .before in rw (by-i (kept .before), kept .if1 .left, by-j (c .before), c .if2 .left) refl
 
 pub plus-spec : {M : Type 1} → statement M
 plus-spec = tie.close (tie.spec gone-requires returns gone-requires-2 returns-2 returns-3)

@@ -11,57 +11,6 @@ use Rattle.terms.proofs.Terms.{added}
 use Rattle.terms.proofs.row.plus_six.Statement.{statement}
 use Rattle.terms.proofs.row.plus_six.Tie as tie
 
-power-requires : tie.Need-power-requires
-power-requires c κs = search needs
-
-power-requires-2 : tie.Need-power-requires-2
-power-requires-2 c κs = search needs
-
-power-requires-3 : tie.Need-power-requires-3
-power-requires-3 c κs = search needs
-
-power-requires-4 : tie.Need-power-requires-4
-power-requires-4 c κs = search needs
-
-power-requires-5 : tie.Need-power-requires-5
-power-requires-5 c κs = search needs
-
-power-requires-6 : tie.Need-power-requires-6
-power-requires-6 c κs = search needs
-
-scaled-requires : tie.Need-scaled-requires
-scaled-requires c κs = search needs
-
-plus-requires : tie.Need-plus-requires
-plus-requires c κs = search needs
-
-plus-requires-2 : tie.Need-plus-requires-2
-plus-requires-2 c κs = search needs
-
-scaled-requires-2 : tie.Need-scaled-requires-2
-scaled-requires-2 c κs = search needs
-
-plus-requires-3 : tie.Need-plus-requires-3
-plus-requires-3 c κs = search needs
-
-scaled-requires-3 : tie.Need-scaled-requires-3
-scaled-requires-3 c κs = search needs
-
-plus-requires-4 : tie.Need-plus-requires-4
-plus-requires-4 c κs = search needs
-
-scaled-requires-4 : tie.Need-scaled-requires-4
-scaled-requires-4 c κs = search needs
-
-plus-requires-5 : tie.Need-plus-requires-5
-plus-requires-5 c κs = search needs
-
-scaled-requires-5 : tie.Need-scaled-requires-5
-scaled-requires-5 c κs = search needs
-
-plus-requires-6 : tie.Need-plus-requires-6
-plus-requires-6 c κs = search needs
-
 returns : tie.Need-returns
 unfolding plusSix scaled
 returns c =
@@ -70,17 +19,18 @@ returns c =
     let p6 = p4 .before .before in
     let p8 = p6 .before .before in
     let w = p8 .before .before in
-    let w3 = w .before .before .before in
-    let s = w3 .before .before .before .before in
+    let powers-b = w .before in
+    let powers-a = powers-b .before .before .before in
+    let s = powers-a .before .before .before in
     let x = s .args in
     let i = toZ-ofZ (s .fits .i) in
     let j = toZ-ofZ (s .fits .j) in
-    let b2 = w .before .power6 .ensures in
-    let b1 = w .before .before .power5 .ensures in
-    let b0 = w3 .power4 .ensures in
-    let a2 = w3 .before .power3 .ensures in
-    let a1 = w3 .before .before .power2 .ensures in
-    let a0 = w3 .before .before .before .power .ensures in
+    let b2 = powers-b .power6 .ensures in
+    let b1 = powers-b .before .power5 .ensures in
+    let b0 = powers-b .before .before .power4 .ensures in
+    let a2 = powers-a .power3 .ensures in
+    let a1 = powers-a .before .power2 .ensures in
+    let a0 = powers-a .before .before .power .ensures in
     let ni = w .scaled .ensures in
     λ t. record {
       f = added 0 0 (x .a) (x .b) (x .s .f) (x .n) (x .i) (x .j) i j (p8 .before .plus .ensures) refl a0 b0 t;
@@ -95,21 +45,21 @@ pub plus-six-spec : {M : Type 1} → statement M
 plus-six-spec =
     tie.close
     (tie.spec
-    power-requires
-    power-requires-2
-    power-requires-3
-    power-requires-4
-    power-requires-5
-    power-requires-6
-    scaled-requires
-    plus-requires
-    plus-requires-2
-    scaled-requires-2
-    plus-requires-3
-    scaled-requires-3
-    plus-requires-4
-    scaled-requires-4
-    plus-requires-5
-    scaled-requires-5
-    plus-requires-6
+    (λ c κs. search needs)
+    (λ c κs. search needs)
+    (λ c κs. search needs)
+    (λ c κs. search needs)
+    (λ c κs. search needs)
+    (λ c κs. search needs)
+    (λ c κs. search needs)
+    (λ c κs. search needs)
+    (λ c κs. search needs)
+    (λ c κs. search needs)
+    (λ c κs. search needs)
+    (λ c κs. search needs)
+    (λ c κs. search needs)
+    (λ c κs. search needs)
+    (λ c κs. search needs)
+    (λ c κs. search needs)
+    (λ c κs. search needs)
     returns)

@@ -49,7 +49,8 @@ loop-less c = omega arith
 
 loop-again : tie.Need-loop-again Inv-loop μ-loop
 loop-again c =
-    let l = c .before .before .before .before .before in
+    let rowed = c .before .before .before in
+    let l = rowed .before .before in
     let s = l .before .before in
     let n = now (s .args .n) in
     let i = now (s .args .i) in
@@ -59,7 +60,7 @@ loop-again c =
     let b = s .args .b in
     let more : k < length (rows n i j) = omega (arith, s .pre .1) in (
       omega arith,
-      six-next a b (l .loop .r) n i j k more (toZ-ofZ {w = w8} (record { sfits = c .before .before .before .plus-six-arg .given })) (toZ-ofZ {w = w8} (record { sfits = c .before .before .plus-six-arg2 .given })) (c .plus-six .ensures) (l .loop .inv .1),
+      six-next a b (l .loop .r) n i j k more (toZ-ofZ {w = w8} (record { sfits = rowed .plus-six-arg .given })) (toZ-ofZ {w = w8} (record { sfits = c .before .before .plus-six-arg2 .given })) (c .plus-six .ensures) (l .loop .inv .1),
     )
 
 returns : tie.Need-returns Inv-loop μ-loop

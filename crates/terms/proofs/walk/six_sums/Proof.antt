@@ -20,6 +20,20 @@ Inv-loop n i j a b m s₀ k₀ s k = (k ≤ length (rows n i j)) × (sixFrom a b
 abbrev μ-loop : tie.MeasureT-loop
 μ-loop n i j a b m s₀ k₀ s k = m - k
 
+-- from the first row: where its I and J were read, and where the rows were counted
+abbrev rowed : tie.After-plus-six Inv-loop μ-loop → tie.After-plus-six-arg Inv-loop μ-loop
+rowed c = c .before .before .before
+
+abbrev counted : tie.After-plus-six Inv-loop μ-loop → tie.After-count Inv-loop μ-loop
+counted c = rowed c .before .before
+
+-- from a turn of the loop, and from the loop
+abbrev looped : tie.After-group Inv-loop μ-loop → tie.At-loop Inv-loop μ-loop
+looped c = c .before .before .before
+
+abbrev counted-in : tie.At-loop Inv-loop μ-loop → tie.After-count Inv-loop μ-loop
+counted-in c = counted (c .before)
+
 count-requires : tie.Need-count-requires Inv-loop μ-loop
 count-requires c κs = search needs
 
@@ -48,7 +62,7 @@ plus-six-requires c κs = search needs
 loop-holds : tie.Need-loop-holds Inv-loop μ-loop
 unfolding sixOf sumOf ofInt ofBits
 loop-holds c =
-    let t = c .before .before .before .before .before in
+    let t = counted c in
     let s = t .before .before in
     let n = now (s .args .n) in
     let i = now (s .args .i) in
@@ -57,25 +71,25 @@ loop-holds c =
     let b = s .args .b in
     let more : 0 < length (rows n i j) = omega (arith, t .count .ensures) in (
       omega arith,
-      six-next a b _ n i j 0 more (toZ-ofZ {w = w8} (record { sfits = c .before .before .before .plus-six-arg .given })) (toZ-ofZ {w = w8} (record { sfits = c .before .before .plus-six-arg2 .given })) (c .plus-six .ensures) refl,
+      six-next a b _ n i j 0 more (toZ-ofZ {w = w8} (record { sfits = rowed c .plus-six-arg .given })) (toZ-ofZ {w = w8} (record { sfits = c .before .before .plus-six-arg2 .given })) (c .plus-six .ensures) refl,
     )
 
 group-end-requires : tie.Need-group-end-requires Inv-loop μ-loop
 group-end-requires c κs = search needs
 
 group-requires : tie.Need-group-requires Inv-loop μ-loop
-group-requires c κs = (omega (arith, c .group-end .ensures), omega (arith, c .group-end .ensures, c .before .before .before .before .before .before .before .before .count .ensures))
+group-requires c κs = (omega (arith, c .group-end .ensures), omega (arith, c .group-end .ensures, counted-in (c .before .before) .count .ensures))
 
 loop-less : tie.Need-loop-less Inv-loop μ-loop
 loop-less c = omega (arith, c .before .group-end .ensures)
 
 loop-again : tie.Need-loop-again Inv-loop μ-loop
-loop-again c = (omega (arith, c .before .group-end .ensures, c .before .before .before .before .before .before .before .before .before .count .ensures), c .group .ensures ∙ c .before .before .before .loop .inv .1)
+loop-again c = (omega (arith, c .before .group-end .ensures, counted-in (looped c) .count .ensures), c .group .ensures ∙ looped c .loop .inv .1)
 
 returns-2 : tie.Need-returns-2 Inv-loop μ-loop
 returns-2 c =
     let l = c .before in
-    let t = l .before .before .before .before .before .before in
+    let t = counted-in l in
     let s = t .before .before in
     six-end (s .args .a) (s .args .b) (l .loop .s) (rows (now (s .args .n)) (now (s .args .i)) (now (s .args .j))) (l .loop .k) (omega (arith, t .count .ensures)) (l .loop .inv .1)
 

@@ -13,9 +13,13 @@ point-requires c κs = search needs
 six-requires : tie.Need-six-requires
 six-requires c κs = search needs
 
+-- where `six` has answered; after it the fields are read
+abbrev summed : tie.After-struct-known2 → tie.After-six
+summed c = c .before .before
+
 returns : tie.Need-returns
 unfolding gamma1 sum1 sixOf ofBits neg
-returns c = rw (c .before .before .six .ensures, c .before .before .before .point .ensures) refl
+returns c = rw (summed c .six .ensures, summed c .before .point .ensures) refl
 
 pub gamma-spec : {M : Type 1} → statement M
 gamma-spec = tie.close (tie.spec point-requires six-requires returns)

@@ -4,13 +4,14 @@ use lib.Ieee.{round, ofBits, neg}
 use borrow.Author.Needs.{needs}
 use Rattle.arith.specs.Printed.{printed}
 use Rattle.terms.specs.Sum.{rows}
+use Rattle.terms.proofs.Lent.{lent-six}
 use Rattle.liquid.specs.Region1.{table1}
 use Rattle.liquid.proofs.region1.Region1.six.Statement.{statement}
 use Rattle.liquid.proofs.region1.Region1.six.Tie as tie
 
 returns : tie.Need-returns
 unfolding rows table1 printed round ofBits neg
-returns c = rw (c .six-sums .ensures) refl
+returns c = lent-six table1 _ _ (c .six-sums .ensures) refl
 
 pub six-spec : {M : Type 1} → statement M
 six-spec = tie.close (tie.spec (λ c. search needs) (λ c. search needs) (λ c. search needs) (λ c κs. search needs) returns)

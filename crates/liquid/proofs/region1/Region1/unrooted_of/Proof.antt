@@ -12,9 +12,13 @@ point-requires c κs = search needs
 from-gamma-requires : tie.Need-from-gamma-requires
 from-gamma-requires c κs = search needs
 
+-- where `point` has answered; after it the fields are read
+abbrev first : tie.After-from-gamma → tie.After-point
+first c = c .before .before .before .before .before .before .before .before
+
 returns : tie.Need-returns
 unfolding unrootedOf1
-returns c = rw (c .from-gamma .ensures, c .before .before .before .before .before .before .before .before .point .ensures) refl
+returns c = rw (c .from-gamma .ensures, first c .point .ensures) refl
 
 pub unrooted-of-spec : {M : Type 1} → statement M
 unrooted-of-spec = tie.close (tie.spec point-requires from-gamma-requires returns)

@@ -1,18 +1,13 @@
 -- `vapour::region5::Region5::response_of` meets its contract: it is what `point` and `response_at` promise. Assumes nothing.
+use mathlib.Core.Path.{refl}
 use borrow.Author.Needs.{needs}
 use Rattle.vapour.specs.Region5.{responseOf5}
 use Rattle.vapour.proofs.region5.Region5.response_of.Statement.{statement}
 use Rattle.vapour.proofs.region5.Region5.response_of.Tie as tie
 
-point-requires : tie.Need-point-requires
-point-requires c κs = search needs
-
-response-at-requires : tie.Need-response-at-requires
-response-at-requires c κs = search needs
-
 returns : tie.Need-returns
 unfolding responseOf5
-returns c = rw (c .response-at .ensures, c .before .point .ensures)
+returns c = rw (c .response-at .ensures, c .before .point .ensures) refl
 
 pub response-of-spec : {M : Type 1} → statement M
-response-of-spec = tie.close (tie.spec point-requires response-at-requires returns)
+response-of-spec = tie.close (tie.spec (λ c κs. search needs) (λ c κs. search needs) returns)
