@@ -1,7 +1,8 @@
 // The desk: eight callers, 32 rows, one halving a turn. The host keeps one desk and lends it for each
 // call; the call gives it back beside its answer. Every call takes every desk, every caller, kind and
-// ticket: what it answers and what it leaves is said in specs/Model.antt, what a run of calls is worth
-// in specs/Runs.antt.
+// ticket: what it answers and what it leaves is said in specs/Model.antt, the paper's number and values
+// of an answer in specs/Answers.antt, the order of refusals in specs/Refusals.antt, what a run of calls
+// is worth in specs/Runs.antt.
 mod calls;
 
 pub use calls::collect;

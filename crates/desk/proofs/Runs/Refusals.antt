@@ -1,4 +1,5 @@
--- A refused call leaves the desk as it was, and its number is that of the first test that fails: each call by its definition, test by test. Assumes nothing.
+-- The number of a refusal is that of the first test that fails, and a refused call leaves the desk as it was: each call by its definition, test by test.
+-- Assumes nothing.
 use mathlib.Core.Path.{_≡_, refl}
 use mathlib.Core.Bool.{Bool, true, false, cond, not, _&&_}
 use mathlib.Core.List.{[], _∷_}
@@ -9,62 +10,15 @@ use Rattle.settle.specs.declared.Judged.{Judged}
 use Rattle.settle.specs.declared.Judged.the-variants as Judged
 use Rattle.settle.specs.declared.Settled.{Settled}
 use Rattle.settle.specs.Settle.{judgedOf}
-use Rattle.ledger.specs.declared.Row.{Row}
 use Rattle.ledger.specs.declared.Desk.{Desk}
 use Rattle.desk.specs.declared.Answer.the-variants.{Refused, Ticket, Halved, Idle, State}
 use Rattle.desk.specs.declared.Open.{Open}
 use Rattle.desk.specs.declared.Open.the-variants.{At, Closed}
 use Rattle.ledger.specs.Rows.{due, most, row, counted, held, ofCaller, tally, lowest, between, sound}
 use Rattle.desk.specs.Answers.{numberOf}
-use Rattle.desk.specs.Model.{answers, refuse, fresh, seated, admitted, judgedPost, postOf, next, turnedAt, turnOf, openOf, emptied, peekAt, collectAt, withdrawAt, peekOf, collectOf, withdrawOf}
-use Rattle.desk.specs.Runs.{Call, post, turn, peek, collect, withdraw, step, asked}
+use Rattle.desk.specs.Model.{answers, refuse, admitted, judgedPost, postOf, next, turnedAt, turnOf, openOf, emptied, peekAt, collectAt, withdrawAt, peekOf, collectOf, withdrawOf}
+use Rattle.desk.specs.Runs.{Call, post, turn, peek, collect, withdraw, step}
 use Rattle.desk.specs.Refusals.{unless, firstOf, judged, testsOf}
-
-pub keeps : (d : Desk) (x : Call) (n : ℕ) → step d x .answer ≡ Refused n → step d x .desk ≡ d
-unfolding postOf judgedPost admitted turnOf peekOf collectOf withdrawOf peekAt collectAt withdrawAt
-keeps d (post c k p y) n = go (sound d) (ltb c 8) (between 2 3 k) (judgedOf k p y)
-  where
-    admits : (r : Row) (u v : Bool) → (cond u (cond v (answers (Ticket (r .ticket)) (seated d r)) (refuse 10 d)) (refuse 13 d)) .answer ≡ Refused n
-        → (cond u (cond v (answers (Ticket (r .ticket)) (seated d r)) (refuse 10 d)) (refuse 13 d)) .desk ≡ d
-    admits r false v e = refl
-    admits r true false e = refl
-    admits r true true e = absurd (let z : _≡_ {A = ℕ} 0 1 = cc in omega arith)
-
-    go : (u v w : Bool) (j : Judged) → (cond u (cond (v && w) (judgedPost d c k p y j) (refuse 9 d)) (refuse 15 d)) .answer ≡ Refused n
-        → (cond u (cond (v && w) (judgedPost d c k p y j) (refuse 9 d)) (refuse 15 d)) .desk ≡ d
-    go false v w j e = refl
-    go true false w j e = refl
-    go true true false j e = refl
-    go true true true (Judged.Refused m) e = refl
-    go true true true (Judged.Within r lo hi) e =
-        admits (fresh c (counted d c) (asked k r p y) (record { lo = lo; hi = hi })) (ltb (counted d c) most) (ltb (tally (ofCaller c) d) 4) e
-keeps d turn n = go (sound d) (ltb (next d) 32)
-  where
-    go : (u v : Bool) → (cond u (cond v (answers Halved (turnedAt d ((d .pointer + next d) % 32))) (answers Idle d)) (refuse 15 d)) .answer ≡ Refused n
-        → (cond u (cond v (answers Halved (turnedAt d ((d .pointer + next d) % 32))) (answers Idle d)) (refuse 15 d)) .desk ≡ d
-    go false v e = refl
-    go true true e = absurd (let z : _≡_ {A = ℕ} 0 1 = cc in omega arith)
-    go true false e = refl
-keeps d (peek c t) n = go (openOf d c t)
-  where
-    go : (o : Open) → peekAt d o .answer ≡ Refused n → peekAt d o .desk ≡ d
-    go (Closed m) e = refl
-    go (At i) e = refl
-keeps d (collect c t) n = go (openOf d c t)
-  where
-    done : (i : ℕ) (b : Bool) (v : Settled) → (cond b (refuse 12 d) (answers (State v) (emptied d i))) .answer ≡ Refused n
-        → (cond b (refuse 12 d) (answers (State v) (emptied d i))) .desk ≡ d
-    done i true v e = refl
-    done i false v e = absurd (let z : _≡_ {A = ℕ} 0 1 = cc in omega arith)
-
-    go : (o : Open) → collectAt d o .answer ≡ Refused n → collectAt d o .desk ≡ d
-    go (Closed m) e = refl
-    go (At i) e = done i (ltb (row d i .halvings) due) _ e
-keeps d (withdraw c t) n = go (openOf d c t)
-  where
-    go : (o : Open) → withdrawAt d o .answer ≡ Refused n → withdrawAt d o .desk ≡ d
-    go (Closed m) e = refl
-    go (At i) e = absurd (let z : _≡_ {A = ℕ} 0 1 = cc in omega arith)
 
 -- ---- the order
 
@@ -104,3 +58,50 @@ in-order d (collect c t) =
     ready true s = refl
     ready false s = refl
 in-order d (withdraw c t) = ticket-order d c t (sound d) (ltb c 8) (ltb (lowest (held c t) d) 32) 0 (λ o. numberOf (withdrawAt d o .answer)) (λ n. refl) refl
+
+-- ---- the desk is kept
+
+pub keeps : (d : Desk) (x : Call) (n : ℕ) → step d x .answer ≡ Refused n → step d x .desk ≡ d
+unfolding postOf judgedPost admitted turnOf peekOf collectOf withdrawOf peekAt collectAt withdrawAt
+keeps d (post c k p y) n = go (sound d) (ltb c 8) (between 2 3 k) (judgedOf k p y)
+  where
+    admits : (u v : Bool) (t : ℕ) (e : Desk) → (cond u (cond v (answers (Ticket t) e) (refuse 10 d)) (refuse 13 d)) .answer ≡ Refused n
+        → (cond u (cond v (answers (Ticket t) e) (refuse 10 d)) (refuse 13 d)) .desk ≡ d
+    admits false v t e q = refl
+    admits true false t e q = refl
+    admits true true t e q = absurd (let z : _≡_ {A = ℕ} 0 1 = cc in omega arith)
+
+    go : (u v w : Bool) (j : Judged) → (cond u (cond (v && w) (judgedPost d c k p y j) (refuse 9 d)) (refuse 15 d)) .answer ≡ Refused n
+        → (cond u (cond (v && w) (judgedPost d c k p y j) (refuse 9 d)) (refuse 15 d)) .desk ≡ d
+    go false v w j e = refl
+    go true false w j e = refl
+    go true true false j e = refl
+    go true true true (Judged.Refused m) e = refl
+    go true true true (Judged.Within r lo hi) e = admits (ltb (counted d c) most) (ltb (tally (ofCaller c) d) 4) _ _ e
+keeps d turn n = go (sound d) (ltb (next d) 32)
+  where
+    go : (u v : Bool) → (cond u (cond v (answers Halved (turnedAt d ((d .pointer + next d) % 32))) (answers Idle d)) (refuse 15 d)) .answer ≡ Refused n
+        → (cond u (cond v (answers Halved (turnedAt d ((d .pointer + next d) % 32))) (answers Idle d)) (refuse 15 d)) .desk ≡ d
+    go false v e = refl
+    go true true e = absurd (let z : _≡_ {A = ℕ} 0 1 = cc in omega arith)
+    go true false e = refl
+keeps d (peek c t) n = go (openOf d c t)
+  where
+    go : (o : Open) → peekAt d o .answer ≡ Refused n → peekAt d o .desk ≡ d
+    go (Closed m) e = refl
+    go (At i) e = refl
+keeps d (collect c t) n = go (openOf d c t)
+  where
+    done : (i : ℕ) (b : Bool) (v : Settled) → (cond b (refuse 12 d) (answers (State v) (emptied d i))) .answer ≡ Refused n
+        → (cond b (refuse 12 d) (answers (State v) (emptied d i))) .desk ≡ d
+    done i true v e = refl
+    done i false v e = absurd (let z : _≡_ {A = ℕ} 0 1 = cc in omega arith)
+
+    go : (o : Open) → collectAt d o .answer ≡ Refused n → collectAt d o .desk ≡ d
+    go (Closed m) e = refl
+    go (At i) e = done i (ltb (row d i .halvings) due) _ e
+keeps d (withdraw c t) n = go (openOf d c t)
+  where
+    go : (o : Open) → withdrawAt d o .answer ≡ Refused n → withdrawAt d o .desk ≡ d
+    go (Closed m) e = refl
+    go (At i) e = absurd (let z : _≡_ {A = ℕ} 0 1 = cc in omega arith)
