@@ -1,10 +1,20 @@
 // Every answer to a point sheet on standard input, a line a row: its number, kind, refusal, region,
 // mark (1 verified, 0 not), and p, T, v, u, h, s, cp, w, x by the bits of each; `-` for what an
 // answer lacks. A refused sheet prints only `refused N`.
+ghost use Rattle.text.specs.Room.{Whole};
+ghost use Rattle.listing.specs.Listings.{answersText};
+
+// Writes the listing of any bytes: this room holds every one, so that none is cut.
+fn listed(sheet: &[u8], room: &mut [u8; 600000]) -> usize
+    ensures { λ r. ⌜ Whole (now (room .exit)) (answersText (now (sheet .entry))) r ⌝ }
+{
+    listing::answers(sheet, room)
+}
+
 fn main() {
     let mut input = [0u8; 28113];
     let n = io::read_full(0, &mut input);
-    let mut text = [0u8; 600000];
-    let end = listing::answers(&input[..n], &mut text);
-    io::write_all(1, &text[..end]);
+    let mut room = [0u8; 600000];
+    let end = listed(&input[..n], &mut room);
+    io::write_all(1, &room[..end]);
 }

@@ -28,7 +28,7 @@ use Rattle.listing.specs.declared.Listing.the-variants.{Regions, Answers
 
 -- ---- lines
 
-refused-short : (n : ℕ) → length (refusedLine n) ≤ 29
+pub refused-short : (n : ℕ) → length (refusedLine n) ≤ 29
 unfolding refusedLine
 refused-short n = simp length-append (omega (arith, digits n))
 

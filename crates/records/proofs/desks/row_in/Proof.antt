@@ -1,4 +1,5 @@
 -- `records::desks::row_in` meets its contract: ten words, one behind the other. Assumes nothing.
+use mathlib.Core.Path.{refl}
 use borrow.Author.Needs.{needs}
 use Rattle.records.specs.Records.{rowIn}
 use Rattle.records.proofs.desks.row_in.Statement.{statement}
@@ -81,7 +82,37 @@ float-of-requires-4 c κs = search needs
 
 returns : tie.Need-returns
 unfolding rowIn
-returns c = cc
+returns c =
+    let hi = c .before in
+    let lo-float = hi .before in
+    let lo = lo-float .before in
+    let halvings = lo .before in
+    let y-float = halvings .before in
+    let y = y-float .before in
+    let p-float = y .before in
+    let p = p-float .before in
+    let region = p .before in
+    let kind = region .before in
+    let ticket = kind .before in
+    let caller = ticket .before in
+    let filled = caller .before in
+    rw (
+      c .float-of4 .ensures,
+      hi .word10 .ensures,
+      lo-float .float-of3 .ensures,
+      lo .word9 .ensures,
+      halvings .word8 .ensures,
+      y-float .float-of2 .ensures,
+      y .word7 .ensures,
+      p-float .float-of .ensures,
+      p .word6 .ensures,
+      region .word5 .ensures,
+      kind .word4 .ensures,
+      ticket .word3 .ensures,
+      caller .word2 .ensures,
+      filled .word .ensures,
+    )
+    refl
 
 pub row-in-spec : {M : Type 1} → statement M
 row-in-spec =
