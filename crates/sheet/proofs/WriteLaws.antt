@@ -103,7 +103,7 @@ refusal true true false e k number q = ap (λ (w : Writing). eqb (numberOf w) 0)
 refusal true false d e k number q = ap (λ (w : Writing). eqb (numberOf w) 0) (sym q)
 refusal false b d e k number q = ap (λ (w : Writing). eqb (numberOf w) 0) (sym q)
 
-refused-number : (note rows : List ℕ) (room number : ℕ) → writeOf note rows room ≡ Refused number → eqb (numberOf (Refused number)) 0 ≡ false
+pub refused-number : (note rows : List ℕ) (room number : ℕ) → writeOf note rows room ≡ Refused number → eqb (numberOf (Refused number)) 0 ≡ false
 unfolding writeOf
 refused-number note rows room number e =
     let n = length rows / 24 in

@@ -1,15 +1,11 @@
 -- `records::desks::row_in` meets its contract: ten words, one behind the other. Assumes nothing.
-use mathlib.Core.Path.{refl}
 use borrow.Author.Needs.{needs}
 use Rattle.records.specs.Records.{rowIn}
 use Rattle.records.proofs.desks.row_in.Statement.{statement}
 use Rattle.records.proofs.desks.row_in.Tie as tie
 
-mul-k : tie.Need-mul-k
-mul-k c = search needs
-
-add-k : tie.Need-add-k
-add-k c = search needs
+row-start-requires : tie.Need-row-start-requires
+row-start-requires c κs = search needs
 
 word-requires : tie.Need-word-requires
 word-requires c κs = search needs
@@ -82,44 +78,13 @@ float-of-requires-4 c κs = search needs
 
 returns : tie.Need-returns
 unfolding rowIn
-returns c =
-    let hi = c .before in
-    let lo-float = hi .before in
-    let lo = lo-float .before in
-    let halvings = lo .before in
-    let y-float = halvings .before in
-    let y = y-float .before in
-    let p-float = y .before in
-    let p = p-float .before in
-    let region = p .before in
-    let kind = region .before in
-    let ticket = kind .before in
-    let caller = ticket .before in
-    let filled = caller .before in
-    rw (
-      c .float-of4 .ensures,
-      hi .word10 .ensures,
-      lo-float .float-of3 .ensures,
-      lo .word9 .ensures,
-      halvings .word8 .ensures,
-      y-float .float-of2 .ensures,
-      y .word7 .ensures,
-      p-float .float-of .ensures,
-      p .word6 .ensures,
-      region .word5 .ensures,
-      kind .word4 .ensures,
-      ticket .word3 .ensures,
-      caller .word2 .ensures,
-      filled .word .ensures,
-    )
-    refl
+returns c = cc
 
 pub row-in-spec : {M : Type 1} → statement M
 row-in-spec =
     tie.close
     (tie.spec
-    mul-k
-    add-k
+    row-start-requires
     word-requires
     add-word
     word-requires-2
