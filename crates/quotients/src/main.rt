@@ -7,8 +7,12 @@ ghost use Rattle.sheet.specs.Read.{countOf};
 ghost use Rattle.listing.specs.Listings.{triplesOf, quotientsHead, quotientsRow};
 use sheet::Reading;
 
+// The lines of no row are longer: a note has at most 1,365 triples, and a triple one line of at most 122
+// bytes.
+const ROOM: usize = 262144;
+
 // Writes the head of the listing: this room holds every one, so that none is cut.
-fn head(reading: Reading, room: &mut [u8; 262144]) -> usize
+fn head(reading: Reading, room: &mut [u8; ROOM]) -> usize
     ensures { λ r. ⌜ Whole (now (room .exit)) (quotientsHead reading) r ⌝ }
 {
     listing::quotients_head(reading, room)
@@ -16,7 +20,7 @@ fn head(reading: Reading, room: &mut [u8; 262144]) -> usize
 
 // Writes the lines of row k, counted from 0, of a sheet that was read: this room holds those of every
 // row, so that none is cut.
-fn row(sheet: &[u8], reading: Reading, k: usize, room: &mut [u8; 262144]) -> usize
+fn row(sheet: &[u8], reading: Reading, k: usize, room: &mut [u8; ROOM]) -> usize
     requires { ⌜ reading ≡ triplesOf (now sheet) ⌝ }
     ensures { λ r. ⌜ Whole (now (room .exit)) (quotientsRow (now (sheet .entry)) (triplesOf (now (sheet .entry))) k) r ⌝ }
 {
@@ -27,7 +31,7 @@ fn row(sheet: &[u8], reading: Reading, k: usize, room: &mut [u8; 262144]) -> usi
 fn print(sheet: &[u8]) -> usize
     ensures { λ r. ⌜ r ≡ countOf (triplesOf (now (sheet .entry))) ⌝ }
 {
-    let mut room = [0u8; 262144];
+    let mut room = [0u8; ROOM];
     let reading = listing::triples(sheet);
     let end = head(reading, &mut room);
     io::write_all(1, &room[..end]);

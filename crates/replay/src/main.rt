@@ -10,9 +10,12 @@ use libc::STDIN_FILENO;
 use libc::STDOUT_FILENO;
 use transcript::Step;
 
+// The text of no record is longer: the longest are those of a desk that is shown.
+const ROOM: usize = 8192;
+
 // Plays record k of a run, counted from 0, which comes next at a place and finds this desk. This room
 // holds the text of every record, so that none is cut.
-fn play(run: &[u8], k: u64, at: usize, d: Desk, room: &mut [u8; 8192]) -> Step
+fn play(run: &[u8], k: u64, at: usize, d: Desk, room: &mut [u8; ROOM]) -> Step
     requires { ⌜ (at ≤ length (now run)) × (k < 18446744073709551615) × Next (now run) k at d ⌝ }
     ensures { λ r. ⌜ Played (now (run .entry)) k at r × Whole (now (room .exit)) (recordText (now (run .entry)) k) (r .end) ⌝ }
 {
@@ -24,7 +27,7 @@ fn replay(run: &[u8]) -> u64
     requires { ⌜ length (now run) ≤ 65537 ⌝ }
     ensures { λ r. ⌜ Ended (now (run .entry)) r ⌝ }
 {
-    let mut room = [0u8; 8192];
+    let mut room = [0u8; ROOM];
     let mut desk = desk::new_desk();
     let mut at = 0;
     let mut k = 0;

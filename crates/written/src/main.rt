@@ -6,7 +6,11 @@ ghost use Prim.Native.Nat.{_≤_, min};
 ghost use lib.ListN.{length, drop};
 ghost use Rattle.text.specs.Room.{Whole};
 ghost use Rattle.sheet.specs.Write.{writeOf};
+ghost use Rattle.listing.specs.Listings.{longest};
 ghost use Rattle.written.specs.Written.{answerText, writtenText};
+
+// No sheet is longer.
+const ROOM: usize = 28112;
 
 // As many as asked for, and at most as many as there are.
 fn at_most(asked: u64, there: usize) -> usize
@@ -30,7 +34,7 @@ fn behind(parts: &[u8]) -> &[u8]
 // Writes the sheet of a note and rows, or `refused N`, whole: of the room, which holds the longest
 // sheet, so many bytes may be used for the sheet.
 fn answered(note: &[u8], rows: &[u8], most: usize, room: &mut [u8]) -> usize
-    requires { ⌜ (most ≤ 28112) × (length (now room) ≡ 28112) ⌝ }
+    requires { ⌜ (most ≤ longest) × (length (now room) ≡ longest) ⌝ }
     ensures { λ r. ⌜ Whole (now (room .exit)) (answerText (now (note .entry)) (now (rows .entry)) (writeOf (now (note .entry)) (now (rows .entry)) most)) r ⌝ }
 {
     let w = sheet::write(note, rows, &mut room[..most]);
@@ -41,19 +45,19 @@ fn answered(note: &[u8], rows: &[u8], most: usize, room: &mut [u8]) -> usize
 }
 
 // Writes what is printed for what is given.
-fn text(parts: &[u8], room: &mut [u8; 28112]) -> usize
+fn text(parts: &[u8], room: &mut [u8; ROOM]) -> usize
     ensures { λ r. ⌜ Whole (now (room .exit)) (writtenText (now (parts .entry))) r ⌝ }
 {
     let rest = behind(parts);
     let end = at_most(sheet::word(parts, 0), rest.len());
-    let most = at_most(sheet::word(parts, 1), 28112);
+    let most = at_most(sheet::word(parts, 1), ROOM);
     answered(&rest[..end], &rest[end..], most, room)
 }
 
 fn main() {
     let mut input = io::large_buffer();
     let n = io::read_full(0, &mut input);
-    let mut room = [0u8; 28112];
+    let mut room = [0u8; ROOM];
     let end = text(&input[..n], &mut room);
     io::write_all(1, &room[..end]);
 }
