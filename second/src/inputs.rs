@@ -8,6 +8,7 @@ mod papers;
 mod points;
 mod random;
 mod runs;
+mod writings;
 
 use crate::outputs::most_bytes;
 use crate::Program;
@@ -50,7 +51,7 @@ impl Manner {
 }
 
 /// Input for `program`: `count` is the number of random records (`arithmetic`), of
-/// rows of a sheet (`regions`, `answers`, `quotients`; of a damaged one the most) or of
+/// rows (`regions`, `answers`, `quotients`, `written`; of a damaged input the most) or of
 /// desk calls (`replay`; of a run of a pair, of its model's calls). The programs
 /// `check_values`, `desk_run` and `plant` read nothing.
 pub fn of(program: Program, seed: u64, count: usize, manner: Manner) -> Vec<u8> {
@@ -73,6 +74,7 @@ fn whole(program: Program, seed: u64, count: usize) -> Vec<u8> {
         Program::Regions | Program::Answers => papers::queries(seed, count),
         Program::Quotients => papers::triples(seed, count),
         Program::Replay => runs::records(seed, count),
+        Program::Written => writings::whole(seed, count),
         Program::CheckValues | Program::DeskRun | Program::Plant => Vec::new(),
     }
 }
@@ -83,6 +85,7 @@ fn damaged(program: Program, seed: u64, count: usize, random: &mut Random) -> Ve
             let triples = matches!(program, Program::Quotients);
             damage::sheet(papers::small(seed, count, triples), random)
         }
+        Program::Written => writings::damaged(seed, count, random),
         _ => damage::words(whole(program, seed, count), random),
     }
 }

@@ -31,7 +31,7 @@ use std::process::ExitCode;
 
 const USAGE: &str = "usage: second inputs NAME SEED COUNT [MANNER]
        second outputs NAME
-names: arithmetic check_values regions answers quotients desk_run replay plant
+names: arithmetic check_values regions answers quotients written desk_run replay plant
 manners: whole damaged empty cut oversized random; of replay also one other";
 
 /// The programs that are compared, by the names they are built under.
@@ -42,6 +42,7 @@ pub enum Program {
     Regions,
     Answers,
     Quotients,
+    Written,
     DeskRun,
     Replay,
     Plant,
@@ -55,6 +56,7 @@ impl Program {
             "regions" => Some(Program::Regions),
             "answers" => Some(Program::Answers),
             "quotients" => Some(Program::Quotients),
+            "written" => Some(Program::Written),
             "desk_run" => Some(Program::DeskRun),
             "replay" => Some(Program::Replay),
             "plant" => Some(Program::Plant),
@@ -91,7 +93,7 @@ fn answer(words: &[&str]) -> Option<io::Result<Vec<u8>>> {
         ["outputs", name] => {
             let program = Program::named(name)?;
             let input = if program.reads_input() { standard_input() } else { Ok(Vec::new()) };
-            Some(input.map(|input| outputs::of(program, &input).into_bytes()))
+            Some(input.map(|input| outputs::bytes(program, &input)))
         }
         _ => None,
     }

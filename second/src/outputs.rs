@@ -6,6 +6,7 @@ mod listings;
 mod numbers;
 mod plant;
 mod replay;
+mod written;
 
 use crate::Program;
 
@@ -22,6 +23,16 @@ pub fn of(program: Program, input: &[u8]) -> String {
         Program::DeskRun => desk_run::listing(),
         Program::Replay => replay::listing(input),
         Program::Plant => plant::listing(),
+        Program::Written => String::from_utf8_lossy(&written::sheet(input)).into_owned(),
+    }
+}
+
+/// The bytes that `program` must print: those of its text, and where it is no text those
+/// of the sheet.
+pub fn bytes(program: Program, input: &[u8]) -> Vec<u8> {
+    match program {
+        Program::Written => written::sheet(input),
+        _ => of(program, input).into_bytes(),
     }
 }
 
@@ -31,6 +42,7 @@ pub fn most_bytes(program: Program) -> usize {
         Program::Arithmetic => numbers::LIMIT,
         Program::Regions | Program::Answers | Program::Quotients => listings::LONGEST,
         Program::Replay => replay::LIMIT,
+        Program::Written => written::LIMIT,
         Program::CheckValues | Program::DeskRun | Program::Plant => 0,
     }
 }

@@ -17,7 +17,7 @@ use vapour::Region2;
 use vapour::Region5;
 
 // All of them, in the paper's order.
-pub fn tables(tally: Tally) -> Tally {
+pub(crate) fn tables(tally: Tally) -> Tally {
     let tally = a1(tally);
     let tally = a3(tally);
     let tally = a6(tally);

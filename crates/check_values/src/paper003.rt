@@ -6,7 +6,7 @@ use backward::p1_hs;
 use backward::p2_hs;
 
 // All of them, in the paper's order.
-pub fn tables(tally: Tally) -> Tally {
+pub(crate) fn tables(tally: Tally) -> Tally {
     let tally = table3(tally);
     let tally = table5(tally);
     table9(tally)

@@ -11,7 +11,7 @@ pub struct Tally {
 
 impl Tally {
     // Nothing written yet.
-    pub fn new() -> Self {
+    pub(crate) fn new() -> Self {
         Self {
             lines: 0,
             agreed: 0,
@@ -19,13 +19,13 @@ impl Tally {
     }
 
     // Writes the line of a value that the paper prints as 0.DIGITS · 10^k, and counts it.
-    pub fn line(self, label: &[u8], computed: f64, digits: u64, k: i16) -> Self {
+    pub(crate) fn line(self, label: &[u8], computed: f64, digits: u64, k: i16) -> Self {
         io::write_all(1, label);
         self.numbers(computed, digits, k)
     }
 
     // The same of a quantity at a point of a table, its label in three parts.
-    pub fn part(
+    pub(crate) fn part(
         self,
         table: &[u8],
         quantity: &[u8],
@@ -55,7 +55,7 @@ impl Tally {
     }
 
     // Writes the last line.
-    pub fn print(self) {
+    pub(crate) fn print(self) {
         io::print_decimal(1, self.agreed);
         io::write_all(1, b" of ");
         io::print_decimal(1, self.lines);

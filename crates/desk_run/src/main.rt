@@ -71,17 +71,10 @@ fn withdraw(d: Desk, caller: u64, ticket: u64) -> Desk {
     e
 }
 
-// n turns, of which only the last speaks.
-fn turns(start: Desk, n: u64) -> Desk {
-    let mut d = start;
-    let mut k = 1u64;
-    while k < n {
-        let o = desk::turn(d);
-        let e = o.desk;
-        d = e;
-        k += 1;
-    }
-    let o = desk::turn(d);
+// So many turns that say nothing, and one that speaks.
+fn turn_after(d: Desk, silent: u64) -> Desk {
+    let t = turns::turns(d, silent);
+    let o = desk::turn(t.desk);
     let a = o.answer;
     say(b"turn", a);
     let e = o.desk;
@@ -100,12 +93,12 @@ fn main() {
     let d = post(d, 1, 4, 1.5);
     let d = post_at(d, 1, 2, 0.0006, 500.0);
     let d = post_at(d, 1, 2, 0.0006, -7.0e300);
-    let d = turns(d, 199);
+    let d = turn_after(d, 198);
     peek(d, 0, 0);
     peek(d, 1, 0);
     let d = collect(d, 1, 0);
-    let d = turns(d, 1);
-    let d = turns(d, 1);
+    let d = turn_after(d, 0);
+    let d = turn_after(d, 0);
     let d = collect(d, 1, 0);
     let d = collect(d, 1, 0);
     let d = withdraw(d, 0, 1);

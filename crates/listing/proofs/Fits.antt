@@ -2,9 +2,10 @@
 -- 4,096 bytes. Assumes nothing.
 use Prim.Native.Nat.{ℕ, _+_, _*_, _/_, _%_, _≤_}
 use native.Mathlib.Omega.{arith}
+use borrow.Author.Needs.{zero≤}
 use mathlib.Core.Path.{_≡_, refl}
 use mathlib.Core.Bool.{Bool, true, false, cond}
-use mathlib.Core.List.{List, []}
+use mathlib.Core.List.{List, [], _++_}
 use lib.Dec.{ltb, eqb}
 use lib.ListN.{length, take, getD, length-append, length-take}
 use Rattle.text.specs.Texts.{joined, blank, newline}
@@ -29,7 +30,7 @@ use Rattle.listing.specs.declared.Listing.the-variants.{Regions, Answers
 
 -- ---- lines
 
-refused-short : (n : ℕ) → length (refusedLine n) ≤ 29
+pub refused-short : (n : ℕ) → length (refusedLine n) ≤ 29
 unfolding refusedLine
 refused-short n = simp length-append (omega (arith, digits n))
 
@@ -77,14 +78,21 @@ listed-short : (listing : Listing) (s : List ℕ) → length (listedOf listing s
 unfolding listedOf headerOf
 listed-short listing s = go listing (openedOf s) refl
   where
+    head : (l : Listing) → length (headerOf l) ≤ 47
+    head Regions = omega arith
+    head Answers = omega arith
+
+    rows : (l : Listing) (count start : ℕ) → count ≤ 2500 → length (headerOf l ++ joined (lineAt l s start) count) ≤ 600000
+    rows l count start h =
+        simp length-append (omega (arith, h, head l, joined-short (lineAt l s start) 239 count (λ k. row-short l (k + 1) (rowOf s start k))))
+
+    refused : (l : Listing) (n : ℕ) (t : Bool) → length (cond t (headerOf l ++ joined (lineAt l s 0) 0) (refusedLine n)) ≤ 600000
+    refused l n true = rows l 0 0 zero≤
+    refused l n false = omega (arith, refused-short n)
+
     go : (l : Listing) (r : Reading) → openedOf s ≡ r → length (listedOf l s r) ≤ 600000
-    go l (Refused n) e = omega (arith, refused-short n)
-    go Regions (Rows count start) e =
-        simp length-append
-        (omega (arith, opened-few s count start e .0, joined-short (lineAt Regions s start) 239 count (λ k. row-short Regions (k + 1) (rowOf s start k))))
-    go Answers (Rows count start) e =
-        simp length-append
-        (omega (arith, opened-few s count start e .0, joined-short (lineAt Answers s start) 239 count (λ k. row-short Answers (k + 1) (rowOf s start k))))
+    go l (Refused n) e = refused l n (eqb n 0)
+    go l (Rows count start) e = rows l count start (opened-few s count start e .0)
 
 -- what `regions` and `answers` lend
 pub regions-fits : (s : List ℕ) → length (regionsText s) ≤ 600000

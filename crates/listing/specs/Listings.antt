@@ -4,7 +4,7 @@ use mathlib.Core.Bool.{cond}
 use mathlib.Core.List.{List, [], _∷_, _++_}
 use lib.ListN.{length, take}
 use lib.Dec.{ltb, eqb}
-use Rattle.sheet.specs.Read.{readOf}
+use Rattle.sheet.specs.Read.{numberOf, countOf, startOf, readOf}
 use Rattle.sheet.specs.Rows.{rowOf}
 use Rattle.sheet.specs.declared.reader.Reading.{Reading}
 use Rattle.sheet.specs.declared.reader.Reading.the-variants.{Rows, Refused}
@@ -41,8 +41,7 @@ lineAt listing s start k = rowLine listing (k + 1) (rowOf s start k)
 
 -- the header and a line a row; of a refused sheet only its number
 unfoldable pub listedOf : Listing → List ℕ → Reading → List ℕ
-listedOf listing s (Refused number) = refusedLine number
-listedOf listing s (Rows count start) = headerOf listing ++ joined (lineAt listing s start) count
+listedOf listing s r = cond (eqb (numberOf r) 0) (headerOf listing ++ joined (lineAt listing s (startOf r)) (countOf r)) (refusedLine (numberOf r))
 
 abbrev pub regionsText : List ℕ → List ℕ
 regionsText s = listedOf Regions s (openedOf s)

@@ -9,6 +9,7 @@ mod opening;
 
 pub use derivatives::quotients;
 pub use derivatives::quotients_head;
+pub use lines::refused;
 pub use listings::answers;
 pub use listings::regions;
 pub use opening::triples;

@@ -11,8 +11,8 @@ ghost use Rattle.text.specs.Texts.{joined};
 ghost use Rattle.listing.specs.Lines.{refusedLine, regionLine, answerLine};
 ghost use Rattle.listing.specs.Listings.{headerOf, rowLine, lineAt};
 
-// Writes `refused N`.
-pub(crate) fn refused(number: u64, out: &mut [u8]) -> usize
+// Writes `refused N`, all that is said of a refused sheet.
+pub fn refused(number: u64, out: &mut [u8]) -> usize
     ensures { λ r. ⌜ Written (now (out .entry)) 0 (refusedLine number) (now (out .exit)) r ⌝ }
 {
     let at = text::bytes(b"refused ", out, 0);

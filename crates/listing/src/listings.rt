@@ -4,7 +4,6 @@ use crate::lines::header;
 use crate::lines::lines;
 use crate::lines::refused;
 use crate::opening::opened;
-use sheet::Reading;
 ghost use Rattle.text.specs.Room.{Written};
 ghost use Rattle.listing.specs.Listings.{openedOf, listedOf, regionsText, answersText};
 
@@ -13,13 +12,12 @@ fn listed(listing: Listing, sheet: &[u8], out: &mut [u8]) -> usize
     ensures { λ r. ⌜ Written (now (out .entry)) 0 (listedOf listing (now (sheet .entry)) (openedOf (now (sheet .entry)))) (now (out .exit)) r ⌝ }
 {
     let r = opened(sheet);
-    match r {
-        Reading::Refused(number) => refused(number, out),
-        Reading::Rows { count, start } => {
-            let at = header(listing, out);
-            lines(listing, sheet, start, count, out, at)
-        }
+    let number = r.number();
+    if number != 0 {
+        return refused(number, out);
     }
+    let at = header(listing, out);
+    lines(listing, sheet, r.start(), r.count(), out, at)
 }
 
 // The text of `regions`: row number, kind, refusal and region of each row.

@@ -44,16 +44,10 @@ fn made(desk: Desk, call: Call) -> Outcome {
 
 // n turns of the desk, to whomever they fall.
 fn turns(plant: Plant, n: u64) -> Plant {
-    let mut d = plant.desk;
-    let mut k = 0u64;
-    while k < n {
-        let o = desk::turn(d);
-        let e = o.desk;
-        d = e;
-        k += 1;
-    }
+    let t = turns::turns(plant.desk, n);
+    let desk = t.desk;
     let seats = plant.seats;
-    Plant { desk: d, seats }
+    Plant { desk, seats }
 }
 
 // One call for each seat in turn.

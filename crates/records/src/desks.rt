@@ -4,7 +4,15 @@ use ledger::Desk;
 use ledger::Row;
 ghost use mathlib.Core.Path.{_≡_};
 ghost use Prim.Native.Nat.{_<_};
-ghost use Rattle.records.specs.Records.{made, rowsKnown, rowIn, countIn, deskIn};
+ghost use Rattle.records.specs.Records.{made, rowStart, rowsKnown, rowIn, countIn, deskIn};
+
+// The number of row i's first word, which says whether it is filled.
+fn row_start(i: usize) -> usize
+    requires { ⌜ i < 32 ⌝ }
+    ensures { λ r. ⌜ r ≡ rowStart i ⌝ }
+{
+    14 + 10 * i
+}
 
 // Whether the words of a desk are all there, and each row is filled or not, 1 or 0.
 pub(crate) fn rows_known(rest: &[u8]) -> bool
@@ -15,7 +23,7 @@ pub(crate) fn rows_known(rest: &[u8]) -> bool
     }
     let mut i = 0;
     while i < 32 {
-        if 1 < sheet::word(rest, 14 + 10 * i) {
+        if 1 < sheet::word(rest, row_start(i)) {
             return false;
         }
         i += 1;
@@ -28,7 +36,7 @@ fn row_in(rest: &[u8], i: usize) -> Row
     requires { ⌜ i < 32 ⌝ }
     ensures { λ r. ⌜ r ≡ rowIn (now (rest .entry)) i ⌝ }
 {
-    let k = 14 + 10 * i;
+    let k = row_start(i);
     Row {
         filled: sheet::word(rest, k) == 1,
         caller: sheet::word(rest, k + 1),

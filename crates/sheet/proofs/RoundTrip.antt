@@ -19,7 +19,7 @@ use Rattle.sheet.specs.declared.writer.Writing.the-variants.{Length}
 use Rattle.sheet.proofs.VersionLaws.{allowed-small, version-known, version-small, version-one}
 use Rattle.sheet.proofs.WordLaws.{Bytes, u32-behind, u32-of-bytes, u32-bytes-at}
 use Rattle.sheet.proofs.ReadLaws.{trailer-rows, trailer-fits, read-rows, read-inv}
-use Rattle.sheet.proofs.WriteLaws.{Written, written, writes, sheet-length, room-sheet}
+use Rattle.sheet.proofs.WriteLaws.{Written, written, writes, sheet-length, room-sheet, sheet-in-front}
 
 -- ---- a written sheet reads back
 
@@ -87,9 +87,7 @@ sheet-reads note rows room m w =
 pub reads-back : (note rows out : List ℕ) (m : ℕ) → writeOf note rows (length out) ≡ Length m → ReadsAs (take m (roomOf note rows out)) note rows
 reads-back note rows out m e =
     let w = written note rows (length out) m e in
-    let s = sheetOf note rows in
-    let front : take m (roomOf note rows out) ≡ s = ap (take m) (room-sheet note rows out m e) ∙ take-at s (drop m out) m (sheet-length note rows ∙ w .size) in
-    subst (λ (l : List ℕ). ReadsAs l note rows) (sym front) (sheet-reads note rows (length out) m w)
+    subst (λ (l : List ℕ). ReadsAs l note rows) (sym (sheet-in-front note rows out m e)) (sheet-reads note rows (length out) m w)
 
 -- ---- a sheet that reads is written again
 

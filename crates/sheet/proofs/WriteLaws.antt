@@ -2,12 +2,13 @@
 use mathlib.Core.Path.{_≡_, refl, sym, ap, _∙_}
 use mathlib.Core.Bool.{Bool, true, false, _&&_, cond}
 use mathlib.Core.List.{List, _++_}
-use Prim.Native.Nat.{ℕ, _+_, _/_, _%_, _≤_}
+use Prim.Native.Nat.{ℕ, _+_, _/_, _%_, _≤_, _<_}
 use native.Mathlib.Nat.{zero-add}
 use native.Mathlib.Omega.{arith}
-use lib.ListN.{length, drop, length-append}
+use lib.ListN.{length, take, drop, length-append}
+use lib.Seq.{take-at}
 use lib.Dec.{leb, eqb}
-use borrow.Author.Tests.{leb-true, eqb-true, le-leb, eq-eqb}
+use borrow.Author.Tests.{leb-true, eqb-true, le-leb, eq-eqb, ne-eqb}
 use Rattle.text.specs.Room.{placed}
 use Rattle.text.proofs.Pieces.{whole}
 use Rattle.sheet.specs.Versions.{allowed, versionFor}
@@ -71,11 +72,16 @@ sheet-length note rows = simp length-append
 
 -- a sheet that is written stands at the front, and behind it what was there
 pub room-sheet : (note rows out : List ℕ) (m : ℕ) → writeOf note rows (length out) ≡ Length m → roomOf note rows out ≡ sheetOf note rows ++ drop m out
-unfolding roomOf numberOf
+unfolding roomOf
 room-sheet note rows out m e =
     let s = sheetOf note rows in
     ap (λ (w : Writing). cond (eqb (numberOf w) 0) (s ++ drop (length s) out) out) e
     ∙ ap (λ (k : ℕ). s ++ drop k out) (sheet-length note rows ∙ written note rows (length out) m e .size)
+
+pub sheet-in-front : (note rows out : List ℕ) (m : ℕ) → writeOf note rows (length out) ≡ Length m → take m (roomOf note rows out) ≡ sheetOf note rows
+sheet-in-front note rows out m e =
+    let s = sheetOf note rows in
+    ap (take m) (room-sheet note rows out m e) ∙ take-at s (drop m out) m (sheet-length note rows ∙ written note rows (length out) m e .size)
 
 -- which is what placing it there leaves, since it fits
 pub room-written : (note rows out : List ℕ) (m : ℕ) → writeOf note rows (length out) ≡ Length m → placed out 0 (sheetOf note rows) ≡ roomOf note rows out
@@ -91,14 +97,13 @@ room-written note rows out m e =
 refusal : (a b d e : Bool) (k number : ℕ)
     → cond a (cond b (cond d (cond e (Length k) (Refused 25)) (Refused 24)) (Refused 23)) (Refused 22) ≡ Refused number
     → eqb (numberOf (Refused number)) 0 ≡ false
-unfolding numberOf
 refusal true true true true k number q = absurd (not-length number k (sym q))
 refusal true true true false k number q = ap (λ (w : Writing). eqb (numberOf w) 0) (sym q)
 refusal true true false e k number q = ap (λ (w : Writing). eqb (numberOf w) 0) (sym q)
 refusal true false d e k number q = ap (λ (w : Writing). eqb (numberOf w) 0) (sym q)
 refusal false b d e k number q = ap (λ (w : Writing). eqb (numberOf w) 0) (sym q)
 
-refused-number : (note rows : List ℕ) (room number : ℕ) → writeOf note rows room ≡ Refused number → eqb (numberOf (Refused number)) 0 ≡ false
+pub refused-number : (note rows : List ℕ) (room number : ℕ) → writeOf note rows room ≡ Refused number → eqb (numberOf (Refused number)) 0 ≡ false
 unfolding writeOf
 refused-number note rows room number e =
     let n = length rows / 24 in
@@ -111,3 +116,8 @@ room-refused note rows out number e =
     let s = sheetOf note rows in
     sym (ap (λ (w : Writing). cond (eqb (numberOf w) 0) (s ++ drop (length s) out) out) e
     ∙ ap (λ (b : Bool). cond b (s ++ drop (length s) out) out) (refused-number note rows (length out) number e))
+
+-- the same by the number: a refused writing leaves the room as it was
+pub refused-keeps : (note rows out : List ℕ) → 0 < numberOf (writeOf note rows (length out)) → roomOf note rows out ≡ out
+unfolding roomOf
+refused-keeps note rows out h = rw (ne-eqb (numberOf (writeOf note rows (length out))) 0 (λ e. omega (arith, h, e))) refl

@@ -10,10 +10,19 @@ use Rattle.sheet.specs.Rows.{kindsKnown}
 use Rattle.sheet.specs.declared.reader.Reading.{Reading}
 use Rattle.sheet.specs.declared.reader.Reading.the-variants.{Rows, Refused}
 
--- a refusal's number, 0 for none
-unfoldable pub numberOf : Reading → ℕ
+-- What reading answers, in the paper's words. The refusal's number, 0 for none:
+abbrev pub numberOf : Reading → ℕ
 numberOf (Rows count start) = 0
 numberOf (Refused number) = number
+
+-- and of a sheet that reads how many rows there are, and where the first starts, which is how long the note is; both 0 where it is refused
+abbrev pub countOf : Reading → ℕ
+countOf (Rows count start) = count
+countOf (Refused number) = 0
+
+abbrev pub startOf : Reading → ℕ
+startOf (Rows count start) = start
+startOf (Refused number) = 0
 
 -- a trailer's four words, with t bytes before it
 unfoldable pub judged : ℕ → ℕ → ℕ → ℕ → ℕ → Reading

@@ -10,10 +10,15 @@ use Rattle.sheet.specs.Rows.{kindsKnown}
 use Rattle.sheet.specs.declared.writer.Writing.{Writing}
 use Rattle.sheet.specs.declared.writer.Writing.the-variants.{Length, Refused}
 
--- a refusal's number, 0 for none
-unfoldable pub numberOf : Writing → ℕ
+-- What writing answers, in the paper's words. The refusal's number, 0 for none:
+abbrev pub numberOf : Writing → ℕ
 numberOf (Length n) = 0
 numberOf (Refused number) = number
+
+-- and of a sheet that is written its length, 0 where it is refused
+abbrev pub lengthOf : Writing → ℕ
+lengthOf (Length n) = n
+lengthOf (Refused number) = 0
 
 -- the trailer of so many rows, in a version
 abbrev pub trailerBytes : ℕ → ℕ → List ℕ

@@ -5,13 +5,45 @@ use crate::versions::known;
 use crate::words::u32_at;
 ghost use mathlib.Core.Path.{_≡_};
 ghost use Prim.Native.Nat.{_<_};
-ghost use Rattle.sheet.specs.Read.{judged, trailerOf, readOf};
+ghost use Rattle.sheet.specs.Read.{numberOf, countOf, startOf, judged, trailerOf, readOf};
 
 // What reading a sheet finds: how many rows there are and where the first starts, which is how long
 // the note is; or a refusal's number.
 pub enum Reading {
     Rows { count: usize, start: usize },
     Refused(u64),
+}
+
+impl Reading {
+    // The refusal's number, 0 if there is none.
+    pub fn number(self) -> u64
+        ensures { λ r. ⌜ r ≡ numberOf self ⌝ }
+    {
+        match self {
+            Reading::Rows { count: _, start: _ } => 0,
+            Reading::Refused(number) => number,
+        }
+    }
+
+    // How many rows there are: none where the sheet is refused.
+    pub fn count(self) -> usize
+        ensures { λ r. ⌜ r ≡ countOf self ⌝ }
+    {
+        match self {
+            Reading::Rows { count, start: _ } => count,
+            Reading::Refused(_) => 0,
+        }
+    }
+
+    // Where the first row starts, which is how long the note is: 0 where the sheet is refused.
+    pub fn start(self) -> usize
+        ensures { λ r. ⌜ r ≡ startOf self ⌝ }
+    {
+        match self {
+            Reading::Rows { count: _, start } => start,
+            Reading::Refused(_) => 0,
+        }
+    }
 }
 
 // What a trailer's four words say, with t bytes before it.

@@ -6,12 +6,34 @@ ghost use mathlib.Core.Path.{_≡_};
 ghost use Prim.Native.Nat.{_<_};
 ghost use lib.ListN.{length};
 ghost use Rattle.text.specs.Room.{placed};
-ghost use Rattle.sheet.specs.Write.{trailerBytes, sheetOf, writeOf, roomOf};
+ghost use Rattle.sheet.specs.Write.{numberOf, lengthOf, trailerBytes, sheetOf, writeOf, roomOf};
 
 // What writing a sheet answers: its length, or a refusal's number.
 pub enum Writing {
     Length(usize),
     Refused(u64),
+}
+
+impl Writing {
+    // The refusal's number, 0 if there is none.
+    pub fn number(self) -> u64
+        ensures { λ r. ⌜ r ≡ numberOf self ⌝ }
+    {
+        match self {
+            Writing::Length(_) => 0,
+            Writing::Refused(number) => number,
+        }
+    }
+
+    // The sheet's length: 0 where it is refused.
+    pub fn length(self) -> usize
+        ensures { λ r. ⌜ r ≡ lengthOf self ⌝ }
+    {
+        match self {
+            Writing::Length(length) => length,
+            Writing::Refused(_) => 0,
+        }
+    }
 }
 
 // The trailer of so many rows, in a version.

@@ -9,7 +9,7 @@ use lib.Dec.{leb}
 use lib.ListN.{length, take, drop, length-append}
 use lib.Seq.{paste, paste-zero, length-paste, take-paste, drop-paste, drop-drop, take-append-add, take-append-le, take-length, length-take-le}
 use borrow.Author.Tests.{leb-true, leb-false}
-use Rattle.text.specs.Room.{fitting, placed, after, Written}
+use Rattle.text.specs.Room.{fitting, placed, after, Written, Whole}
 
 -- ---- the room keeps its length
 
@@ -108,6 +108,10 @@ then {o} {o₁} {o₂} {a} {b} {at} {p} {q} x y = record {
 pub said : {o o₁ s t : List ℕ} {at p : ℕ} → s ≡ t → Written o at s o₁ p → Written o at t o₁ p
 said {o} {o₁} {s} {t} {at} {p} e x = record { room = x .room ∙ ap (placed o at) e; place = x .place ∙ ap (after o at) e }
 
+-- the same, of what was written first: that it is the text is then what is left to show
+pub reads : {o o₁ s t : List ℕ} {at p : ℕ} → Written o at s o₁ p → s ≡ t → Written o at t o₁ p
+reads x e = said e x
+
 -- the same place, said otherwise
 pub behind : {o o₁ s : List ℕ} {at p q : ℕ} → p ≡ q → Written o at s o₁ p → Written o at s o₁ q
 behind e x = record { room = x .room; place = sym e ∙ x .place }
@@ -129,3 +133,17 @@ unfolding after fitting
 inside {o} {s} {o₁} {at} {p} x h =
     let l : p ≤ length o₁ = omega (arith, x .place, kept x) in
     (l, sym (length-take-le p o₁ l))
+
+-- where a room is long enough for a text at its front, nothing of it is cut
+pub uncut : {o s o₁ : List ℕ} {p : ℕ} → Written o 0 s o₁ p → length s ≤ length o → Whole o₁ s p
+unfolding after fitting
+uncut {o} {s} {o₁} {p} x h =
+    let e : p ≡ length s = omega (arith, x .place) in
+    record {
+      inside = omega (arith, kept x);
+      text = ap (λ (k : ℕ). take k o₁) e ∙ ap (take (length s)) (x .room ∙ whole o 0 s (omega arith)) ∙ take-append-le (length s) s _ (omega arith) ∙ take-length s;
+    }
+
+-- and the part of the room that ends with it has as many bytes as its place says
+pub ends : {o s : List ℕ} {p : ℕ} → Whole o s p → p ≡ length (take p o)
+ends {o} {s} {p} x = sym (length-take-le p o (x .inside))

@@ -2,7 +2,7 @@
 -- bytes do, they are cut there; so pieces one behind the other are, in every room, the same as all of them at once (`then`, proofs/Pieces.antt).
 -- Definitions only.
 use mathlib.Core.Path.{_≡_}
-use Prim.Native.Nat.{ℕ, _+_, _-_, min}
+use Prim.Native.Nat.{ℕ, _+_, _-_, _≤_, min}
 use mathlib.Core.List.{List, _++_}
 use lib.ListN.{length, take, drop}
 
@@ -22,3 +22,9 @@ after o at s = at + fitting o at s
 pub record Written (o : List ℕ) (at : ℕ) (s o′ : List ℕ) (r : ℕ) : Type 0 where
   pub room : o′ ≡ placed o at s
   pub place : r ≡ after o at s
+
+-- What a program promises of the room that it lends, where that is long enough for every text: s stands whole at the front of the room o, with nothing cut,
+-- and r is the place behind it, so that `&o[..r]` is s.
+pub record Whole (o s : List ℕ) (r : ℕ) : Type 0 where
+  pub inside : r ≤ length o
+  pub text : take r o ≡ s

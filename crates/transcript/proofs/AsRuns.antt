@@ -5,36 +5,15 @@ use native.Mathlib.Omega.{arith}
 use mathlib.Core.Path.{_≡_, refl, sym, ap, _∙_}
 use mathlib.Core.List.{List, [], _∷_, _++_}
 use lib.ListN.{replicate}
-use Rattle.desk.specs.Model.{turnOf}
 use Rattle.desk.specs.Runs as Runs
 use Rattle.ledger.specs.declared.Desk.{Desk}
-use Rattle.desk.specs.declared.Answer.{Answer}
-use Rattle.desk.specs.declared.Answer.the-variants.{Refused, Ticket, Halved, Idle, Shown, State, Freed}
 use Rattle.desk.proofs.Runs.Own.{after-append}
 use Rattle.records.specs.declared.Deed.{Deed}
 use Rattle.records.specs.declared.Deed.the-variants as Deed
-use Rattle.transcript.specs.declared.Turned.{Turned}
-use Rattle.transcript.specs.Steps.{callOf, afterTurn, turnedOnce, turnsFrom, deskAfter, standing, deedAt}
+use Rattle.turns.proofs.TurnLaws.{turns-desk}
+use Rattle.transcript.specs.Steps.{callOf, deskAfter, standing, deedAt}
 
 -- ---- one record
-
--- a turn that is counted leaves the desk that it left
-desk-left : (t : Turned) (a : Answer) (d : Desk) → afterTurn t a d .desk ≡ d
-unfolding afterTurn
-desk-left t (Refused n) d = refl
-desk-left t (Ticket n) d = refl
-desk-left t Halved d = refl
-desk-left t Idle d = refl
-desk-left t (Shown n lo hi) d = refl
-desk-left t (State s) d = refl
-desk-left t Freed d = refl
-
-turns-desk : (n : ℕ) (t : Turned) → turnsFrom n t .desk ≡ Runs.afterFrom (t .desk) (replicate n Runs.turn)
-unfolding turnsFrom Runs.afterFrom
-turns-desk zero t = refl
-turns-desk (suc n) t =
-    turns-desk n (turnedOnce t)
-    ∙ ap (λ (d : Desk). Runs.afterFrom d (replicate n Runs.turn)) (desk-left t (turnOf (t .desk) .answer) (turnOf (t .desk) .desk))
 
 -- the calls that a record makes
 abbrev pub callsOf : Deed → List Runs.Call

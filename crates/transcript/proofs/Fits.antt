@@ -9,7 +9,8 @@ use Rattle.records.specs.declared.Deed.the-variants.{Asked, Turns, Given, Shown
 use Rattle.call_lines.proofs.Fits.{call-short}
 use Rattle.desk_lines.proofs.Fits.{shown-short}
 use Rattle.transcript.specs.Lines.{turnsLine, givenLine, badLine}
-use Rattle.transcript.specs.Steps.{outcomeOf, turnsOf, textOf}
+use Rattle.turns.specs.Turns.{turnsOf}
+use Rattle.transcript.specs.Steps.{outcomeOf, textOf}
 
 pub text-fits : (number : ℕ) (d : Desk) (deed : Deed) → length (textOf number d deed) ≤ 8192
 unfolding textOf turnsLine givenLine badLine

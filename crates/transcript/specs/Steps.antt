@@ -1,15 +1,13 @@
 -- What a record does: the desk that it leaves, the bytes that it takes, the text that it writes; and what a run of them does. The calls are those of the
 -- desk's runs, in the words of its theorems. Definitions only.
-use Prim.Native.Nat.{ℕ, zero, suc, _+_}
+use Prim.Native.Nat.{ℕ, zero, suc, _+_, _≤_, _<_}
 use mathlib.Core.Path.{_≡_}
 use mathlib.Core.List.{List}
 use lib.ListN.{length, drop}
 use Rattle.text.specs.Texts.{joined}
-use Rattle.desk.specs.Model.{newDesk, turnOf}
+use Rattle.desk.specs.Model.{newDesk}
 use Rattle.desk.specs.Runs as Runs
 use Rattle.ledger.specs.declared.Desk.{Desk}
-use Rattle.desk.specs.declared.Answer.{Answer}
-use Rattle.desk.specs.declared.Answer.the-variants as Answer
 use Rattle.desk.specs.declared.Outcome.{Outcome}
 use Rattle.records.specs.declared.Call.{Call}
 use Rattle.records.specs.declared.Call.the-variants.{Post, Peek, Collect, Withdraw}
@@ -18,7 +16,8 @@ use Rattle.records.specs.declared.Deed.the-variants.{Asked, Turns, Given, Shown
 use Rattle.records.specs.Records.{recordBytes, deskBytes, deskIn, deedOf}
 use Rattle.call_lines.specs.Lines.{callLine}
 use Rattle.desk_lines.specs.Lines.{shownLines}
-use Rattle.transcript.specs.declared.Turned.{Turned}
+use Rattle.turns.specs.declared.Turned.{Turned}
+use Rattle.turns.specs.Turns.{turnsOf}
 use Rattle.transcript.specs.declared.Step.{Step}
 use Rattle.transcript.specs.Lines.{turnsLine, givenLine, badLine}
 
@@ -33,29 +32,6 @@ callOf (Withdraw caller ticket) = Runs.withdraw caller ticket
 
 abbrev pub outcomeOf : Desk → Call → Outcome
 outcomeOf d call = Runs.step d (callOf call)
-
--- ---- turns
-
--- one turn more, which gave this answer and left this desk; of the answers a turn gives only three
-unfoldable pub afterTurn : Turned → Answer → Desk → Turned
-afterTurn t (Answer.Refused n) d = record { refusal = n; halved = t .halved; idle = t .idle; desk = d }
-afterTurn t Answer.Halved d = record { refusal = t .refusal; halved = t .halved + 1; idle = t .idle; desk = d }
-afterTurn t Answer.Idle d = record { refusal = t .refusal; halved = t .halved; idle = t .idle + 1; desk = d }
-afterTurn t (Answer.Ticket n) d = record { refusal = t .refusal; halved = t .halved; idle = t .idle; desk = d }
-afterTurn t (Answer.Shown n lo hi) d = record { refusal = t .refusal; halved = t .halved; idle = t .idle; desk = d }
-afterTurn t (Answer.State s) d = record { refusal = t .refusal; halved = t .halved; idle = t .idle; desk = d }
-afterTurn t Answer.Freed d = record { refusal = t .refusal; halved = t .halved; idle = t .idle; desk = d }
-
-abbrev pub turnedOnce : Turned → Turned
-turnedOnce t = afterTurn t (turnOf (t .desk) .answer) (turnOf (t .desk) .desk)
-
--- n turns more
-unfoldable pub turnsFrom : ℕ → Turned → Turned
-turnsFrom zero t = t
-turnsFrom (suc n) t = turnsFrom n (turnedOnce t)
-
-abbrev pub turnsOf : ℕ → Desk → Turned
-turnsOf n d = turnsFrom n (record { refusal = 0; halved = 0; idle = 0; desk = d })
 
 -- ---- a record
 
@@ -114,6 +90,24 @@ deedAt run k = deedOf (standing run k .rest)
 abbrev pub recordText : List ℕ → ℕ → List ℕ
 recordText run k = textOf (k + 1) (standing run k .desk) (deedAt run k)
 
--- what is printed of the first n records of a run. The run is over when nothing is left behind a record.
+-- what is printed of the first n records of a run
 unfoldable pub transcript : List ℕ → ℕ → List ℕ
 transcript run n = joined (recordText run) n
+
+-- Record k comes next: it finds this desk and starts at this place, both as the run has them.
+pub record Next (run : List ℕ) (k at : ℕ) (d : Desk) : Type 0 where
+  pub desk : d ≡ standing run k .desk
+  pub rest : drop at run ≡ standing run k .rest
+
+-- Record k, which started at this place, was played, and r is what it did: what it takes is there, it takes something where something is left, and the next
+-- record comes behind it.
+pub record Played (run : List ℕ) (k at : ℕ) (r : Step) : Type 0 where
+  pub there : at + r .taken ≤ length run
+  pub some : at < length run → 0 < r .taken
+  pub next : Next run (k + 1) (at + r .taken) (r .desk)
+
+-- The run has n records: it is over when nothing is left behind a record, which is not so of any before the last.
+pub record Ended (run : List ℕ) (n : ℕ) : Type 0 where
+  pub one : 0 < n
+  pub left : (k : ℕ) → 0 < k → k < n → 0 < length (standing run k .rest)
+  pub over : length (standing run n .rest) ≡ 0

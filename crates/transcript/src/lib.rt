@@ -3,19 +3,9 @@
 // there, in specs/Lines.antt, and in `call_lines` and `desk_lines`.
 mod lines;
 mod steps;
-mod turns;
 
 use desk::Desk;
 pub use steps::play;
-
-// What turns one after the other gave: the refusal or 0, how many halved and how many had nothing to
-// halve, and the desk afterwards.
-struct Turned {
-    refusal: u64,
-    halved: u64,
-    idle: u64,
-    desk: Desk,
-}
 
 // What a record did: the desk afterwards, how many bytes of the run it took, and the place behind its
 // text.

@@ -2,7 +2,6 @@
 use crate::Step;
 use crate::lines::opened;
 use crate::lines::turned;
-use crate::turns::turns;
 use call_lines::told;
 use desk::Desk;
 use desk::Outcome;
@@ -11,6 +10,7 @@ use records::Call;
 use records::Deed;
 use records::desk_in;
 use records::read;
+use turns::turns;
 ghost use mathlib.Core.Path.{_≡_};
 ghost use Rattle.text.specs.Room.{Written};
 ghost use Rattle.records.specs.Records.{deedOf};

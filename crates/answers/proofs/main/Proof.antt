@@ -1,9 +1,6 @@
--- `answers::main` is safe: the place behind the text is within the room (`inside`). Assumes nothing.
-use Prim.Native.Nat.{ℕ}
-use mathlib.Core.Path.{sym}
-use lib.ListN.{length-replicate}
-use borrow.Author.Needs.{needs, zero≤}
-use Rattle.text.proofs.Pieces.{inside}
+-- `answers::main` is safe: the place behind the text is within the room. Assumes nothing.
+use borrow.Author.Needs.{needs}
+use Rattle.text.proofs.Pieces.{ends}
 use Rattle.answers.proofs.main.Statement.{statement}
 use Rattle.answers.proofs.main.Tie as tie
 
@@ -16,20 +13,17 @@ read-full-requires c κs = search needs
 array-share-prefix-input : tie.Need-array-share-prefix-input
 array-share-prefix-input c = search needs
 
-slice-aggregate-answers : tie.Need-slice-aggregate-answers
-slice-aggregate-answers c = search needs
+slice-aggregate-listed : tie.Need-slice-aggregate-listed
+slice-aggregate-listed c = search needs
 
-slice-aggregate-answers-2 : tie.Need-slice-aggregate-answers-2
-slice-aggregate-answers-2 c = sym (length-replicate {A = ℕ} 600000 0)
+listed-requires : tie.Need-listed-requires
+listed-requires c κs = search needs
 
-answers-requires : tie.Need-answers-requires
-answers-requires c κs = search needs
-
-array-share-prefix-text : tie.Need-array-share-prefix-text
-array-share-prefix-text c = inside (c .before .answers .ensures) zero≤ .0
+array-share-prefix-room : tie.Need-array-share-prefix-room
+array-share-prefix-room c = c .listed .ensures .inside
 
 slice-aggregate-write-all : tie.Need-slice-aggregate-write-all
-slice-aggregate-write-all c = inside (c .before .before .answers .ensures) zero≤ .1
+slice-aggregate-write-all c = ends (c .before .listed .ensures)
 
 write-all-requires : tie.Need-write-all-requires
 write-all-requires c κs = search needs
@@ -44,10 +38,9 @@ main-spec =
     slice-aggregate-read-full
     read-full-requires
     array-share-prefix-input
-    slice-aggregate-answers
-    slice-aggregate-answers-2
-    answers-requires
-    array-share-prefix-text
+    slice-aggregate-listed
+    listed-requires
+    array-share-prefix-room
     slice-aggregate-write-all
     write-all-requires
     returns)

@@ -1,9 +1,6 @@
--- `regions::main` is safe: the place behind the text is within the room (`inside`). Assumes nothing.
-use Prim.Native.Nat.{ℕ}
-use mathlib.Core.Path.{sym}
-use borrow.Author.Needs.{needs, zero≤}
-use lib.ListN.{length-replicate}
-use Rattle.text.proofs.Pieces.{inside}
+-- `regions::main` is safe: the place behind the text is within the room. Assumes nothing.
+use borrow.Author.Needs.{needs}
+use Rattle.text.proofs.Pieces.{ends}
 use Rattle.regions.proofs.main.Statement.{statement}
 use Rattle.regions.proofs.main.Tie as tie
 
@@ -16,20 +13,17 @@ read-full-requires c κs = search needs
 array-share-prefix-input : tie.Need-array-share-prefix-input
 array-share-prefix-input c = search needs
 
-slice-aggregate-regions : tie.Need-slice-aggregate-regions
-slice-aggregate-regions c = search needs
+slice-aggregate-listed : tie.Need-slice-aggregate-listed
+slice-aggregate-listed c = search needs
 
-slice-aggregate-regions-2 : tie.Need-slice-aggregate-regions-2
-slice-aggregate-regions-2 c = sym (length-replicate {A = ℕ} 600000 0)
+listed-requires : tie.Need-listed-requires
+listed-requires c κs = search needs
 
-regions-requires : tie.Need-regions-requires
-regions-requires c κs = search needs
-
-array-share-prefix-text : tie.Need-array-share-prefix-text
-array-share-prefix-text c = inside (c .before .regions .ensures) zero≤ .0
+array-share-prefix-room : tie.Need-array-share-prefix-room
+array-share-prefix-room c = c .listed .ensures .inside
 
 slice-aggregate-write-all : tie.Need-slice-aggregate-write-all
-slice-aggregate-write-all c = inside (c .before .before .regions .ensures) zero≤ .1
+slice-aggregate-write-all c = ends (c .before .listed .ensures)
 
 write-all-requires : tie.Need-write-all-requires
 write-all-requires c κs = search needs
@@ -44,10 +38,9 @@ main-spec =
     slice-aggregate-read-full
     read-full-requires
     array-share-prefix-input
-    slice-aggregate-regions
-    slice-aggregate-regions-2
-    regions-requires
-    array-share-prefix-text
+    slice-aggregate-listed
+    listed-requires
+    array-share-prefix-room
     slice-aggregate-write-all
     write-all-requires
     returns)

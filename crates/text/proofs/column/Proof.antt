@@ -10,7 +10,7 @@ use borrow.Author.Needs.{needs}
 use Rattle.text.specs.Texts.{hexOf, valueOf, columnOf}
 use Rattle.text.specs.declared.Cell.{Cell}
 use Rattle.text.specs.declared.Cell.the-variants.{Value, Empty}
-use Rattle.text.proofs.Pieces.{said}
+use Rattle.text.proofs.Pieces.{said, reads}
 use Rattle.text.proofs.column.Statement.{statement}
 use Rattle.text.proofs.column.Tie as tie
 
@@ -80,7 +80,7 @@ unfolding columnOf
 returns-2 c =
     let b = c .before .before in
     let k = b .before .before .before in
-    said (ap (λ (d : Cell). columnOf d ++ k .before .before .before .args .end ∷ []) (sym (empty k))) (b .bytes .ensures)
+    reads (b .bytes .ensures) (rw (empty k) refl)
 
 same-length-3 : tie.Need-same-length-3
 same-length-3 c = search needs

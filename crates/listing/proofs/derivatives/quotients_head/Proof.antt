@@ -1,6 +1,6 @@
 -- `listing::derivatives::quotients_head` meets its contract, case by case. Assumes nothing.
-use mathlib.Core.Path.{_≡_, sym, ap}
-use Rattle.text.proofs.Pieces.{said}
+use mathlib.Core.Path.{_≡_, refl, sym, ap}
+use Rattle.text.proofs.Pieces.{said, reads}
 use Rattle.sheet.specs.declared.reader.Reading.the-variants.{Rows, Refused}
 use Rattle.listing.specs.Listings.{quotientsHead}
 use borrow.Author.Needs.{needs}
@@ -45,7 +45,7 @@ returns-2 : tie.Need-returns-2
 unfolding quotientsHead
 returns-2 c =
     let b = c .before .before in
-    said (ap quotientsHead (sym (rows (b .before .before .before)))) (b .bytes .ensures)
+    reads (b .bytes .ensures) (rw (rows (b .before .before .before)) refl)
 
 pub quotients-head-spec : {M : Type 1} → statement M
 quotients-head-spec =

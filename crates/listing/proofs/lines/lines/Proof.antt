@@ -4,7 +4,7 @@ use Prim.Native.Nat.{_+_, _-_, _≤_}
 use mathlib.Core.Path.{ap}
 use native.Mathlib.Omega.{arith}
 use Rattle.text.specs.Room.{Written}
-use Rattle.text.proofs.Pieces.{said, kept}
+use Rattle.text.proofs.Pieces.{reads, kept}
 use Rattle.text.specs.Texts.{joined}
 use Rattle.listing.specs.Listings.{rowLine, lineAt}
 use Rattle.text.proofs.Joined.{begun, turned, ended}
@@ -43,7 +43,7 @@ loop-again c =
     let a = l .before .before .before .args in
     let k = l .loop .k in (
       omega arith,
-      turned (lineAt (a .listing) (a .sheet .now) (a .start)) k (l .loop .inv .1) (said (ap (rowLine (a .listing) (k + 1)) (row .row .ensures)) (line .line .ensures)),
+      turned (lineAt (a .listing) (a .sheet .now) (a .start)) k (l .loop .inv .1) (reads (line .line .ensures) (ap (rowLine (a .listing) (k + 1)) (row .row .ensures))),
     )
 
 same-length : tie.Need-same-length Inv-loop μ-loop

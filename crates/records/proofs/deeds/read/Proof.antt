@@ -1,14 +1,19 @@
 -- `records::deeds::read` meets its contract: its tests are the definition's own. Assumes nothing.
-use mathlib.Core.Path.{sym, _∙_}
+use mathlib.Core.Path.{_≡_, refl, sym, _∙_}
+use mathlib.Core.Bool.{false}
+use lib.Dec.{leb}
+use lib.ListN.{length}
 use borrow.Author.Tests.{eq-eqb, ne-eqb, le-leb, lt-leb}
-use Rattle.records.specs.Records.{deedOf}
+use Rattle.records.specs.Records.{recordBytes, deedOf}
 use borrow.Author.Needs.{needs}
 use Rattle.records.proofs.deeds.read.Statement.{statement}
 use Rattle.records.proofs.deeds.read.Tie as tie
 
 returns : tie.Need-returns
 unfolding deedOf
-returns c = simp (lt-leb _ _ (c .if1 .taken))
+returns c =
+    let short : leb recordBytes (length (c .before .before .args .rest .now)) ≡ false = lt-leb _ _ (c .if1 .taken) in
+    rw short refl
 
 word-requires : tie.Need-word-requires
 word-requires c κs = search needs

@@ -4,11 +4,8 @@ use Rattle.records.specs.Records.{rowIn}
 use Rattle.records.proofs.desks.row_in.Statement.{statement}
 use Rattle.records.proofs.desks.row_in.Tie as tie
 
-mul-k : tie.Need-mul-k
-mul-k c = search needs
-
-add-k : tie.Need-add-k
-add-k c = search needs
+row-start-requires : tie.Need-row-start-requires
+row-start-requires c κs = search needs
 
 word-requires : tie.Need-word-requires
 word-requires c κs = search needs
@@ -87,8 +84,7 @@ pub row-in-spec : {M : Type 1} → statement M
 row-in-spec =
     tie.close
     (tie.spec
-    mul-k
-    add-k
+    row-start-requires
     word-requires
     add-word
     word-requires-2

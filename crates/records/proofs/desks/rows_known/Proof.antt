@@ -1,7 +1,7 @@
 -- `records::desks::rows_known` meets its contract: each row passed says 1 or 0, and the first that does not settles it. Assumes nothing.
 use Prim.Native.Nat.{_-_, _≤_}
 use mathlib.Core.Bool.{true}
-use mathlib.Core.Path.{_≡_, refl, sym}
+use mathlib.Core.Path.{_≡_, refl, sym, ap, _∙_}
 use native.Mathlib.Omega.{arith}
 use borrow.Author.Needs.{needs}
 use borrow.Author.Tests.{le-leb, lt-leb}
@@ -27,11 +27,8 @@ loop-holds : tie.Need-loop-holds Inv-loop μ-loop
 unfolding upto
 loop-holds c = (search needs, refl)
 
-mul-word : tie.Need-mul-word Inv-loop μ-loop
-mul-word c = omega arith
-
-add-word : tie.Need-add-word Inv-loop μ-loop
-add-word c = omega arith
+row-start-requires : tie.Need-row-start-requires Inv-loop μ-loop
+row-start-requires c κs = omega arith
 
 word-requires : tie.Need-word-requires Inv-loop μ-loop
 word-requires c κs = tt
@@ -40,10 +37,12 @@ returns-2 : tie.Need-returns-2 Inv-loop μ-loop
 unfolding rowsKnown
 returns-2 c =
     let word = c .before in
-    let l = word .before .before in
+    let place = word .before in
+    let l = place .before .before in
     let rest = l .before .before .before .args .rest .now in
-    let two = lt-leb (wordOf rest (rowStart (l .loop .i))) 1 (rw (sym (word .word .ensures)) (c .if2 .taken)) in
-    let no = upto-fails (λ k. leb (wordOf rest (rowStart k)) 1) 32 (l .loop .i) (word .before .loop-test .taken) two in
+    let read = word .word .ensures ∙ ap (wordOf rest) (place .row-start .ensures) in
+    let two = lt-leb (wordOf rest (rowStart (l .loop .i))) 1 (rw (sym read) (c .if2 .taken)) in
+    let no = upto-fails (λ k. leb (wordOf rest (rowStart k)) 1) 32 (l .loop .i) (place .before .loop-test .taken) two in
     simp (le-leb _ _ (l .before .if1 .left), no)
 
 add-i : tie.Need-add-i Inv-loop μ-loop
@@ -55,11 +54,13 @@ loop-less c = omega arith
 loop-again : tie.Need-loop-again Inv-loop μ-loop
 loop-again c =
     let word = c .before in
-    let l = word .before .before in
-    let rest = l .before .before .before .args .rest .now in (
+    let place = word .before in
+    let l = place .before .before in
+    let rest = l .before .before .before .args .rest .now in
+    let read = word .word .ensures ∙ ap (wordOf rest) (place .row-start .ensures) in (
       omega arith,
       upto-more (λ k. leb (wordOf rest (rowStart k)) 1) (l .loop .i) (l .loop .inv .1)
-          (le-leb (wordOf rest (rowStart (l .loop .i))) 1 (rw (sym (word .word .ensures)) (c .if2 .left))),
+          (le-leb (wordOf rest (rowStart (l .loop .i))) 1 (rw (sym read) (c .if2 .left))),
     )
 
 returns-3 : tie.Need-returns-3 Inv-loop μ-loop
@@ -79,8 +80,7 @@ rows-known-spec =
     μ-loop
     returns
     loop-holds
-    mul-word
-    add-word
+    row-start-requires
     word-requires
     returns-2
     add-i

@@ -1,4 +1,5 @@
 -- `sheet::reader::trailer` meets its contract: the four words are read where the definition reads them, and judged. Assumes nothing.
+use mathlib.Core.Path.{refl}
 use borrow.Author.Tests.{lt-ltb, le-ltb}
 use Rattle.sheet.specs.Read.{trailerOf}
 use borrow.Author.Needs.{needs}
@@ -38,7 +39,13 @@ judge-requires c κs = search needs
 
 returns-2 : tie.Need-returns-2
 unfolding trailerOf
-returns-2 c = simp (le-ltb _ _ (c .before .before .before .before .before .if1 .left)) (cc)
+returns-2 c =
+    let last = c .before in
+    let version = last .before in
+    let back = version .before in
+    let count = back .before in
+    rw (c .judge .ensures, last .u32-at4 .ensures .0, version .u32-at3 .ensures .0, back .u32-at2 .ensures .0, count .u32-at .ensures .0, le-ltb _ _ (count .before .if1 .left))
+    refl
 
 pub trailer-spec : {M : Type 1} → statement M
 trailer-spec =

@@ -1,4 +1,5 @@
 -- `sheet::rows::row` meets its contract: the tests say whether the definition's own test holds, and a row that is held is read word by word. Assumes nothing.
+use mathlib.Core.Path.{refl}
 use borrow.Author.Tests.{lt-ltb, le-ltb}
 use Prim.Native.Nat.{_-_, _/_}
 use native.Mathlib.Omega.{arith}
@@ -34,7 +35,10 @@ u64-at-requires-3 c κs = search needs
 
 returns : tie.Need-returns
 unfolding rowOf
-returns c = simp (lt-ltb _ _ (c .before .before .before .if2 .taken)) (cc)
+returns c =
+    let first = c .before in
+    let kind = first .before in
+    rw (c .u64-at3 .ensures, first .u64-at2 .ensures, kind .u64-at .ensures, lt-ltb _ _ (kind .before .if2 .taken)) refl
 
 returns-2 : tie.Need-returns-2
 unfolding rowOf

@@ -10,7 +10,7 @@ use lib.ListN.{length, drop, length-drop, length-set}
 use lib.Seq.{take-all}
 use Rattle.text.specs.Decimals.{digitsFrom}
 use Rattle.text.proofs.Digits.{digits-next, digits-last}
-use Rattle.text.proofs.Pieces.{said}
+use Rattle.text.proofs.Pieces.{reads}
 use Rattle.text.proofs.plain.last_digits.Statement.{statement}
 use Rattle.text.proofs.plain.last_digits.Tie as tie
 
@@ -79,7 +79,7 @@ returns c =
     let z : 0 ≡ l .first = omega arith in
     let t : l .text ≡ digitsFrom 3 (a .n) ++ a .end ∷ [] = ap (λ (k : ℕ). digitsFrom k (l .left) ++ drop k (l .text)) z ∙ l .inv .1 in
     let whole : length (drop (3 - a .k) (l .text)) ≤ 4 - (3 - a .k) = simp length-drop (omega arith) in
-    said (take-all _ _ whole ∙ ap (drop (3 - a .k)) t ∙ digits-last (a .k) (a .n) (a .end) (omega arith)) (b .bytes .ensures)
+    reads (b .bytes .ensures) (take-all _ _ whole ∙ ap (drop (3 - a .k)) t ∙ digits-last (a .k) (a .n) (a .end) (omega arith))
 
 pub last-digits-spec : {M : Type 1} → statement M
 last-digits-spec =

@@ -1,16 +1,14 @@
 -- `transcript::steps::play` meets its contract: what each way of reading a record does. Assumes nothing.
 use mathlib.Core.Path.{_≡_, sym, ap, _∙_}
-use native.Mathlib.Omega.{arith}
 use Rattle.text.proofs.Pieces.{said, behind}
 use Rattle.desk.specs.declared.Outcome.{Outcome}
 use Rattle.transcript.specs.declared.Step.{Step}
-use Rattle.transcript.specs.declared.Turned.{Turned}
+use Rattle.turns.specs.declared.Turned.{Turned}
 use Rattle.records.specs.declared.Deed.the-variants.{Asked, Turns, Given, Shown, Bad}
 use Rattle.records.specs.Records.{deedOf}
 use Rattle.call_lines.specs.Lines.{callLine}
 use Rattle.transcript.specs.Lines.{givenLine, badLine}
 use Rattle.transcript.specs.Steps.{deskAfter, takenBy, turnsText, textOf}
-use Rattle.records.proofs.Ways.{turnsIn, turns-few}
 use borrow.Author.Needs.{needs}
 use Rattle.transcript.proofs.steps.play.Statement.{statement}
 use Rattle.transcript.proofs.steps.play.Tie as tie
@@ -50,7 +48,7 @@ enum-known-deed-2 : tie.Need-enum-known-deed-2
 enum-known-deed-2 c = search needs
 
 turns-requires : tie.Need-turns-requires
-turns-requires c κs = let e = ap turnsIn (of-turns c) in omega (arith, e, turns-few (c .before .before .before .before .before .before .args .rest .now))
+turns-requires c κs = search needs
 
 turned-requires : tie.Need-turned-requires
 turned-requires c κs = search needs

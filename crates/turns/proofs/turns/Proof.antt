@@ -1,18 +1,18 @@
--- `transcript::turns::turns` meets its contract: the turns that are left, from what those before gave, are all of them. Assumes nothing.
+-- `turns::turns` meets its contract: the turns that are left, from what those before gave, are all of them. Assumes nothing.
 use Prim.Native.Nat.{_+_, _-_, _≤_}
 use mathlib.Core.Path.{_≡_, refl, sym, ap, _∙_}
 use native.Mathlib.Omega.{arith}
 use Rattle.desk.specs.Model.{turnOf}
 use Rattle.desk.specs.declared.Outcome.{Outcome}
-use Rattle.transcript.specs.declared.Turned.{Turned}
-use Rattle.transcript.specs.Steps.{afterTurn, turnedOnce, turnsFrom}
-use Rattle.transcript.proofs.TurnLaws.{one-turn, halved-more, idle-more}
+use Rattle.turns.specs.declared.Turned.{Turned}
+use Rattle.turns.specs.Turns.{afterTurn, turnedOnce, turnsFrom}
+use Rattle.turns.proofs.TurnLaws.{one-turn, halved-more, idle-more}
 use borrow.Author.Needs.{needs}
-use Rattle.transcript.proofs.turns.turns.Statement.{statement}
-use Rattle.transcript.proofs.turns.turns.Tie as tie
+use Rattle.turns.proofs.turns.Statement.{statement}
+use Rattle.turns.proofs.turns.Tie as tie
 
 abbrev Inv-loop : tie.InvT-loop
-Inv-loop n t₀ left₀ t left = (t .halved + left ≤ 100000) × (t .idle + left ≤ 100000) × (turnsFrom left t ≡ turnsFrom n t₀)
+Inv-loop n t₀ left₀ t left = (t .halved + left ≤ n) × (t .idle + left ≤ n) × (turnsFrom left t ≡ turnsFrom n t₀)
 
 abbrev μ-loop : tie.MeasureT-loop
 μ-loop n t₀ left₀ t left = left

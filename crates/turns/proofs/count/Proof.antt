@@ -1,4 +1,4 @@
--- `transcript::turns::count` meets its contract, case by case. Assumes nothing.
+-- `turns::count` meets its contract, case by case. Assumes nothing.
 use Prim.Native.Nat.{ℕ}
 use mathlib.Core.Path.{_≡_, refl, sym, ap}
 use mathlib.Core.List.{List, [], _∷_}
@@ -8,11 +8,11 @@ use Rattle.desk.proofs.Answer as AnswerT
 use Rattle.ledger.specs.declared.Desk.{Desk}
 use Rattle.desk.specs.declared.Answer.{Answer}
 use Rattle.desk.specs.declared.Answer.the-variants.{Refused, Ticket, Halved, Idle, Shown, State, Freed}
-use Rattle.transcript.specs.declared.Turned.{Turned}
-use Rattle.transcript.specs.Steps.{afterTurn}
+use Rattle.turns.specs.declared.Turned.{Turned}
+use Rattle.turns.specs.Turns.{afterTurn}
 use borrow.Author.Needs.{needs}
-use Rattle.transcript.proofs.turns.count.Statement.{statement}
-use Rattle.transcript.proofs.turns.count.Tie as tie
+use Rattle.turns.proofs.count.Statement.{statement}
+use Rattle.turns.proofs.count.Tie as tie
 
 -- the answers that no turn gives
 abbrev others : List ℕ

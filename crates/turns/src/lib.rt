@@ -1,14 +1,22 @@
-// Turns one after the other (specs/Steps.antt).
-use crate::Turned;
+// Turns of the desk one after the other, to whomever they fall (specs/Turns.antt).
 use desk::Answer;
 use desk::Desk;
 ghost use mathlib.Core.Path.{_≡_};
-ghost use Prim.Native.Nat.{_≤_, _<_};
-ghost use Rattle.transcript.specs.Steps.{afterTurn, turnsOf};
+ghost use Prim.Native.Nat.{_<_};
+ghost use Rattle.turns.specs.Turns.{afterTurn, turnsOf};
+
+// What turns one after the other gave: the refusal or 0, how many halved and how many had nothing to
+// halve, and the desk afterwards.
+pub struct Turned {
+    pub refusal: u64,
+    pub halved: u64,
+    pub idle: u64,
+    pub desk: Desk,
+}
 
 // Counts one turn more, which gave this answer and left this desk.
 fn count(t: Turned, a: Answer, d: Desk) -> Turned
-    requires { ⌜ (t .halved < 100000) × (t .idle < 100000) ⌝ }
+    requires { ⌜ (t .halved < 18446744073709551615) × (t .idle < 18446744073709551615) ⌝ }
     ensures { λ r. ⌜ r ≡ afterTurn t a d ⌝ }
 {
     let mut s = t;
@@ -22,9 +30,8 @@ fn count(t: Turned, a: Answer, d: Desk) -> Turned
     s
 }
 
-// So many turns, at most 100,000.
-pub(crate) fn turns(d: Desk, n: u64) -> Turned
-    requires { ⌜ n ≤ 100000 ⌝ }
+// So many turns.
+pub fn turns(d: Desk, n: u64) -> Turned
     ensures { λ r. ⌜ r ≡ turnsOf n d ⌝ }
 {
     let mut t = Turned {

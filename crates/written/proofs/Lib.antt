@@ -1,0 +1,2 @@
+-- `Laws`: what is printed, by what writing answers.
+pub mod Laws
