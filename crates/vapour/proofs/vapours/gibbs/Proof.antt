@@ -4,11 +4,8 @@ use borrow.Author.Needs.{needs}
 use Rattle.vapour.proofs.vapours.gibbs.Statement.{statement}
 use Rattle.vapour.proofs.vapours.gibbs.Tie as tie
 
-log-requires : tie.Need-log-requires
-log-requires c κs = search needs
-
 returns : tie.Need-returns
 returns c = rw (c .log .ensures) refl
 
 pub gibbs-spec : {M : Type 1} → statement M
-gibbs-spec = tie.close (tie.spec log-requires returns)
+gibbs-spec = tie.close (tie.spec (λ c κs. search needs) returns)

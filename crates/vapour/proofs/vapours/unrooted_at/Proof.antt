@@ -5,12 +5,9 @@ use Rattle.vapour.specs.Vapour.{vapourUnrooted}
 use Rattle.vapour.proofs.vapours.unrooted_at.Statement.{statement}
 use Rattle.vapour.proofs.vapours.unrooted_at.Tie as tie
 
-from-gamma-requires : tie.Need-from-gamma-requires
-from-gamma-requires c κs = search needs
-
 returns : tie.Need-returns
 unfolding vapourUnrooted ofInt ofBits
 returns c = c .from-gamma .ensures
 
 pub unrooted-at-spec : {M : Type 1} → statement M
-unrooted-at-spec = tie.close (tie.spec from-gamma-requires returns)
+unrooted-at-spec = tie.close (tie.spec (λ c κs. search needs) returns)

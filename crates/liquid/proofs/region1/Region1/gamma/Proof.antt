@@ -7,12 +7,6 @@ use Rattle.liquid.specs.Region1.{gamma1, sum1}
 use Rattle.liquid.proofs.region1.Region1.gamma.Statement.{statement}
 use Rattle.liquid.proofs.region1.Region1.gamma.Tie as tie
 
-point-requires : tie.Need-point-requires
-point-requires c κs = search needs
-
-six-requires : tie.Need-six-requires
-six-requires c κs = search needs
-
 -- where `six` has answered; after it the fields are read
 abbrev summed : tie.After-struct-known2 → tie.After-six
 summed c = c .before .before
@@ -22,4 +16,4 @@ unfolding gamma1 sum1 sixOf ofBits neg
 returns c = rw (summed c .six .ensures, summed c .before .point .ensures) refl
 
 pub gamma-spec : {M : Type 1} → statement M
-gamma-spec = tie.close (tie.spec point-requires six-requires returns)
+gamma-spec = tie.close (tie.spec (λ c κs. search needs) (λ c κs. search needs) returns)

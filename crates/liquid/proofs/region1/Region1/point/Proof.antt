@@ -7,12 +7,9 @@ use Rattle.liquid.specs.Region1.{point1}
 use Rattle.liquid.proofs.region1.Region1.point.Statement.{statement}
 use Rattle.liquid.proofs.region1.Region1.point.Tie as tie
 
-reduced-requires : tie.Need-reduced-requires
-reduced-requires c κs = search needs
-
 returns : tie.Need-returns
 unfolding point1 printed round ofInt ofBits
 returns c = c .reduced .ensures
 
 pub point-spec : {M : Type 1} → statement M
-point-spec = tie.close (tie.spec reduced-requires returns)
+point-spec = tie.close (tie.spec (λ c κs. search needs) returns)

@@ -6,9 +6,6 @@ use Rattle.liquid.specs.Region1.{responseOf1}
 use Rattle.liquid.proofs.region1.Region1.response_of.Statement.{statement}
 use Rattle.liquid.proofs.region1.Region1.response_of.Tie as tie
 
-point-requires : tie.Need-point-requires
-point-requires c κs = search needs
-
 -- where `point` has answered; after it the fields are read
 abbrev first : tie.After-struct-known6 → tie.After-point
 first c = c .before .before .before .before .before .before
@@ -18,4 +15,4 @@ unfolding responseOf1 ofInt ofBits
 returns c = rw (first c .point .ensures) refl
 
 pub response-of-spec : {M : Type 1} → statement M
-response-of-spec = tie.close (tie.spec point-requires returns)
+response-of-spec = tie.close (tie.spec (λ c κs. search needs) returns)

@@ -6,12 +6,6 @@ use Rattle.liquid.specs.Region1.{unrootedOf1}
 use Rattle.liquid.proofs.region1.Region1.unrooted_of.Statement.{statement}
 use Rattle.liquid.proofs.region1.Region1.unrooted_of.Tie as tie
 
-point-requires : tie.Need-point-requires
-point-requires c κs = search needs
-
-from-gamma-requires : tie.Need-from-gamma-requires
-from-gamma-requires c κs = search needs
-
 -- where `point` has answered; after it the fields are read
 abbrev first : tie.After-from-gamma → tie.After-point
 first c = c .before .before .before .before .before .before .before .before
@@ -21,4 +15,4 @@ unfolding unrootedOf1
 returns c = rw (c .from-gamma .ensures, first c .point .ensures) refl
 
 pub unrooted-of-spec : {M : Type 1} → statement M
-unrooted-of-spec = tie.close (tie.spec point-requires from-gamma-requires returns)
+unrooted-of-spec = tie.close (tie.spec (λ c κs. search needs) (λ c κs. search needs) returns)

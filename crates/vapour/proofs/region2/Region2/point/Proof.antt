@@ -7,12 +7,9 @@ use Rattle.vapour.specs.Region2.{point2}
 use Rattle.vapour.proofs.region2.Region2.point.Statement.{statement}
 use Rattle.vapour.proofs.region2.Region2.point.Tie as tie
 
-reduced-requires : tie.Need-reduced-requires
-reduced-requires c κs = search needs
-
 returns : tie.Need-returns
 unfolding point2 printed round ofInt ofBits
 returns c = c .reduced .ensures
 
 pub point-spec : {M : Type 1} → statement M
-point-spec = tie.close (tie.spec reduced-requires returns)
+point-spec = tie.close (tie.spec (λ c κs. search needs) returns)
