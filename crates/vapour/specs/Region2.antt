@@ -85,6 +85,7 @@ point2 p t = reducedBy (printed false 461526 (less 6)) (f64 1) (f64 540) p t
 abbrev pub shifted2 : Float → Float
 shifted2 τ = τ ⊖ printed false 5 (less 1)
 
+-- Eqs. (19) to (21)
 unfoldable pub gamma2 : Float → Float → Vapour
 gamma2 p t = vapourAt ideal2 residual2 shifted2 (point2 p t)
 

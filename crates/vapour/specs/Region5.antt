@@ -40,7 +40,7 @@ residual5 =
 unfoldable pub point5 : Float → Float → Point
 point5 p t = reducedBy (printed false 461526 (less 6)) (f64 1) (f64 1000) p t
 
--- The residual part is summed at π and τ, with no shift.
+-- Eqs. (29) to (31): the residual part is summed at π and τ, with no shift.
 unfoldable pub gamma5 : Float → Float → Vapour
 gamma5 p t = vapourAt ideal5 residual5 (λ τ. τ) (point5 p t)
 
