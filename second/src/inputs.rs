@@ -43,9 +43,10 @@ impl Manner {
     }
 }
 
-/// Input for `program`: `count` is the number of random records (`arithmetic`), of
-/// rows (`regions`, `answers`, `quotients`, `written`; of a damaged input the most) or
-/// of desk calls (`replay`). The programs `check_values`, `desk_run` and
+/// Input for `program`: `count` is the number of rows to be written (`written`; of a
+/// damaged input the most), of random records (`arithmetic`), of
+/// rows of a sheet (`regions`, `answers`, `quotients`; of a damaged one the most) or of
+/// desk calls (`replay`). The programs `check_values`, `desk_run` and
 /// `plant` read nothing.
 pub fn of(program: Program, seed: u64, count: usize, manner: Manner) -> Vec<u8> {
     let mut random = Random::new(!seed);
