@@ -50,10 +50,11 @@ impl Manner {
     }
 }
 
-/// Input for `program`: `count` is the number of random records (`arithmetic`), of
-/// rows (`regions`, `answers`, `quotients`, `written`; of a damaged input the most) or of
-/// desk calls (`replay`; of a run of a pair, of its model's calls). The programs
-/// `check_values`, `desk_run` and `plant` read nothing.
+/// Input for `program`: `count` is the number of random records (`arithmetic`), of rows
+/// of a sheet (`regions`, `answers`, `quotients`; of a damaged one the most) or to be
+/// written (`written`; of a damaged input the most), or of desk calls (`replay`; of a run
+/// of a pair, of its model's calls). The programs `check_values`, `desk_run` and `plant`
+/// read nothing.
 pub fn of(program: Program, seed: u64, count: usize, manner: Manner) -> Vec<u8> {
     let mut random = Random::new(!seed);
     match manner {
