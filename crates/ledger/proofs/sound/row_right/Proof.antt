@@ -31,7 +31,14 @@ returns-6 : tie.Need-returns-6
 returns-6 c = sym (not-right _ _ (λ f. never _ _ (c .if6 .taken) (f .kind-high)))
 
 returns-7 : tie.Need-returns-7
-returns-7 c = sym (last-right _ _ (suc-le-suc (c .before .before .before .before .before .before .before .before .before .before .before .before .if1 .left)) (c .before .before .before .before .before .before .before .before .before .if2 .left) (c .before .before .before .before .before .before .before .if3 .left) (c .before .before .before .before .before .if4 .left) (c .before .before .before .if5 .left) (c .before .if6 .left))
+returns-7 c =
+    let kind-high = c .before in
+    let kind-low = kind-high .before .before in
+    let region-high = kind-low .before .before in
+    let region-low = region-high .before .before in
+    let given = region-low .before .before in
+    let known = given .before .before .before in
+    sym (last-right _ _ (suc-le-suc (known .if1 .left)) (given .if2 .left) (region-low .if3 .left) (region-high .if4 .left) (kind-low .if5 .left) (kind-high .if6 .left))
 
 pub row-right-spec : {M : Type 1} → statement M
 row-right-spec =

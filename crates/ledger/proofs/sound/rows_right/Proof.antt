@@ -33,11 +33,14 @@ row-right-requires c κs = tt
 
 returns : tie.Need-returns Inv-loop μ-loop
 returns c =
-    let l = c .before .before .before .before .before .before in
+    let filled = c .before .before .before in
+    let within = filled .before .before in
+    let l = within .before in
     let s = l .before .before in
-    let h = c .before .before .before .before .before .loop-test .taken in
+    let h = within .loop-test .taken in
     let same = row-is (s .args .t1) _ (s .good .0) (l .loop .i) _ h in
-    sym (wrong-row (s .args .t1) (l .loop .i) (l .loop .tickets) (l .loop .seen) (l .loop .inv) h _ same (c .before .before .before .if1 .taken) (sym (c .before .row-right .ensures) ∙ not-true _ (c .if2 .taken)))
+    let wrong = sym (c .before .row-right .ensures) ∙ not-true _ (c .if2 .taken) in
+    sym (wrong-row (s .args .t1) (l .loop .i) (l .loop .tickets) (l .loop .seen) (l .loop .inv) h _ same (filled .if1 .taken) wrong)
 
 mul-n : tie.Need-mul-n Inv-loop μ-loop
 mul-n c = count-fits _ (told-right _ _ _ (c .before .row-right .ensures) (c .if2 .left) .known)
@@ -47,57 +50,89 @@ array-read-n c = told-right _ _ _ (c .before .row-right .ensures) (c .if2 .left)
 
 returns-2 : tie.Need-returns-2 Inv-loop μ-loop
 returns-2 c =
-    let l = c .before .before .before .before .before .before .before in
+    let right = c .before in
+    let filled = right .before .before .before in
+    let within = filled .before .before in
+    let l = within .before in
     let s = l .before .before in
-    let h = c .before .before .before .before .before .before .loop-test .taken in
+    let h = within .loop-test .taken in
     let same = row-is (s .args .t1) _ (s .good .0) (l .loop .i) _ h in
-    sym (fifth-row (s .args .t1) (l .loop .i) (l .loop .tickets) (l .loop .seen) (l .loop .inv) h _ same (c .before .before .before .before .if1 .taken) ((told-right _ _ _ (c .before .before .row-right .ensures) (c .before .if2 .left)) .known) (c .if3 .taken))
+    let known = told-right _ _ _ (right .before .row-right .ensures) (right .if2 .left) .known in
+    sym (fifth-row (s .args .t1) (l .loop .i) (l .loop .tickets) (l .loop .seen) (l .loop .inv) h _ same (filled .if1 .taken) known (c .if3 .taken))
 
 mul-noted : tie.Need-mul-noted Inv-loop μ-loop
-mul-noted c = places-fit _ (told-right _ _ _ (c .before .before .before .row-right .ensures) (c .before .before .if2 .left) .known)
+mul-noted c =
+    let right = c .before .before in
+    places-fit _ (told-right _ _ _ (right .before .row-right .ensures) (right .if2 .left) .known)
 
 noted-requires : tie.Need-noted-requires Inv-loop μ-loop
-noted-requires c κs = place-to _ (told-right _ _ _ (c .before .before .before .row-right .ensures) (c .before .before .if2 .left) .known) _ (c .before .if3 .left)
+noted-requires c κs =
+    let right = c .before .before in
+    place-to _ (told-right _ _ _ (right .before .row-right .ensures) (right .if2 .left) .known) _ (c .before .if3 .left)
 
 returns-3 : tie.Need-returns-3 Inv-loop μ-loop
 returns-3 c =
-    let l = c .before .before .before .before .before .before .before .before .before .before in
+    let right = c .before .before .before .before in
+    let filled = right .before .before .before in
+    let within = filled .before .before in
+    let l = within .before in
     let s = l .before .before in
-    let h = c .before .before .before .before .before .before .before .before .before .loop-test .taken in
+    let h = within .loop-test .taken in
     let same = row-is (s .args .t1) _ (s .good .0) (l .loop .i) _ h in
-    sym (ticket-again (s .args .t1) (l .loop .i) (l .loop .tickets) (l .loop .seen) (l .loop .inv) h _ same (c .before .before .before .before .before .before .before .if1 .taken) ((told-right _ _ _ (c .before .before .before .before .before .row-right .ensures) (c .before .before .before .before .if2 .left)) .known) _ (c .before .noted .ensures) (c .if4 .taken))
+    let known = told-right _ _ _ (right .before .row-right .ensures) (right .if2 .left) .known in
+    sym (ticket-again (s .args .t1) (l .loop .i) (l .loop .tickets) (l .loop .seen) (l .loop .inv) h _ same (filled .if1 .taken) known _ (c .before .noted .ensures) (c .if4 .taken))
 
 mul-tickets : tie.Need-mul-tickets Inv-loop μ-loop
-mul-tickets c = places-fit _ (told-right _ _ _ (c .before .before .before .before .before .row-right .ensures) (c .before .before .before .before .if2 .left) .known)
+mul-tickets c =
+    let right = c .before .before .before .before in
+    places-fit _ (told-right _ _ _ (right .before .row-right .ensures) (right .if2 .left) .known)
 
 add-tickets : tie.Need-add-tickets Inv-loop μ-loop
-add-tickets c = place-fits _ (told-right _ _ _ (c .before .before .before .before .before .row-right .ensures) (c .before .before .before .before .if2 .left) .known) _ (c .before .before .before .if3 .left)
+add-tickets c =
+    let few = c .before .before .before in
+    let right = few .before in
+    place-fits _ (told-right _ _ _ (right .before .row-right .ensures) (right .if2 .left) .known) _ (few .if3 .left)
 
 mul-tickets-2 : tie.Need-mul-tickets-2 Inv-loop μ-loop
-mul-tickets-2 c = place-bytes _ (told-right _ _ _ (c .before .before .before .before .before .row-right .ensures) (c .before .before .before .before .if2 .left) .known) _ (c .before .before .before .if3 .left)
+mul-tickets-2 c =
+    let few = c .before .before .before in
+    let right = few .before in
+    place-bytes _ (told-right _ _ _ (right .before .row-right .ensures) (right .if2 .left) .known) _ (few .if3 .left)
 
 array-write-tickets : tie.Need-array-write-tickets Inv-loop μ-loop
-array-write-tickets c = place-in _ (told-right _ _ _ (c .before .before .before .before .before .row-right .ensures) (c .before .before .before .before .if2 .left) .known) _ (c .before .before .before .if3 .left)
+array-write-tickets c =
+    let few = c .before .before .before in
+    let right = few .before in
+    place-in _ (told-right _ _ _ (right .before .row-right .ensures) (right .if2 .left) .known) _ (few .if3 .left)
 
 add-seen : tie.Need-add-seen Inv-loop μ-loop
 add-seen c = seen-fits _ (c .before .before .before .if3 .left)
 
 mul-seen : tie.Need-mul-seen Inv-loop μ-loop
-mul-seen c = count-fits _ (told-right _ _ _ (c .before .before .before .before .before .row-right .ensures) (c .before .before .before .before .if2 .left) .known)
+mul-seen c =
+    let right = c .before .before .before .before in
+    count-fits _ (told-right _ _ _ (right .before .row-right .ensures) (right .if2 .left) .known)
 
 array-write-seen : tie.Need-array-write-seen Inv-loop μ-loop
-array-write-seen c = told-right _ _ _ (c .before .before .before .before .before .row-right .ensures) (c .before .before .before .before .if2 .left) .known
+array-write-seen c =
+    let right = c .before .before .before .before in
+    told-right _ _ _ (right .before .row-right .ensures) (right .if2 .left) .known
 
 loop-less : tie.Need-loop-less Inv-loop μ-loop
 loop-less c = omega arith
 
 loop-again : tie.Need-loop-again Inv-loop μ-loop
 loop-again c =
-    let l = c .before .before .before .before .before .before .before .before .before .before in
+    let few = c .before .before .before in
+    let right = few .before in
+    let filled = right .before .before .before in
+    let within = filled .before .before in
+    let l = within .before in
     let s = l .before .before in
-    let h = c .before .before .before .before .before .before .before .before .before .loop-test .taken in
+    let h = within .loop-test .taken in
     let same = row-is (s .args .t1) _ (s .good .0) (l .loop .i) _ h in
-    passed-filled (s .args .t1) (l .loop .i) (l .loop .tickets) (l .loop .seen) (l .loop .inv) h _ same (c .before .before .before .before .before .before .before .if1 .taken) (told-right _ _ _ (c .before .before .before .before .before .row-right .ensures) (c .before .before .before .before .if2 .left)) (c .before .before .before .if3 .left) _ (c .before .noted .ensures) (c .if4 .left)
+    let told = told-right _ _ _ (right .before .row-right .ensures) (right .if2 .left) in
+    passed-filled (s .args .t1) (l .loop .i) (l .loop .tickets) (l .loop .seen) (l .loop .inv) h _ same (filled .if1 .taken) told (few .if3 .left) _ (c .before .noted .ensures) (c .if4 .left)
 
 loop-less-2 : tie.Need-loop-less-2 Inv-loop μ-loop
 loop-less-2 c = omega arith
