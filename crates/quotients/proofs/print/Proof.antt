@@ -37,7 +37,10 @@ loop-holds : tie.Need-loop-holds Inv-loop μ-loop
 loop-holds c = zero≤
 
 row-requires : tie.Need-row-requires Inv-loop μ-loop
-row-requires c κs = c .before .before .before .before .before .before .before .before .triples .ensures
+row-requires c κs =
+    let loop = c .before .before in
+    let head = loop .before .before in
+    head .before .before .before .before .triples .ensures
 
 array-share-prefix-room-2 : tie.Need-array-share-prefix-room-2 Inv-loop μ-loop
 array-share-prefix-room-2 c = c .row .ensures .inside

@@ -44,10 +44,14 @@ add-d : tie.Need-add-d
 add-d c = search needs
 
 mul-d : tie.Need-mul-d
-mul-d c = count-fits _ (c .before .before .before .before .before .before .pre .1)
+mul-d c =
+    let row = c .before .before in
+    count-fits _ (row .before .before .before .before .pre .1)
 
 element-write-d : tie.Need-element-write-d
-element-write-d c = c .before .before .before .before .before .before .pre .1
+element-write-d c =
+    let row = c .before .before in
+    row .before .before .before .before .pre .1
 
 returns-3 : tie.Need-returns-3
 unfolding admitted

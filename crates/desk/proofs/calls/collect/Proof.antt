@@ -38,7 +38,11 @@ refused-requires-2 : tie.Need-refused-requires-2
 refused-requires-2 c κs = tt
 
 returns : tie.Need-returns
-returns c = let s = c .before .before .before .before .before .before .before .before in c .refused2 .ensures ∙ collect-early (s .args .t1) _ (s .good .0) _ _ _ _ (opened (c .before .before .before .before .before)) (c .before .if1 .taken)
+returns c =
+    let early = c .before in
+    let row = early .before .before .before .before in
+    let s = row .before .before .before in
+    c .refused2 .ensures ∙ collect-early (s .args .t1) _ (s .good .0) _ _ _ _ (opened row) (early .if1 .taken)
 
 phase-requires : tie.Need-phase-requires
 phase-requires c κs = tt

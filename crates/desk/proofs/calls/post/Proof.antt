@@ -69,7 +69,11 @@ admit-requires c κs =
 
 returns-3 : tie.Need-returns-3
 unfolding postOf judgedPost
-returns-3 c = rw (sound-here (c .before .before .before .before .before .before .before), known-here (c .before .before .before .before .before), ← c .before .before .before .before .judge .ensures, c .before .before .j .given .1) (c .refused3 .ensures)
+returns-3 c =
+    let against = c .before .before in
+    let judged = against .before .before in
+    let known = judged .before in
+    rw (sound-here (known .before .before), known-here known, ← judged .judge .ensures, against .j .given .1) (c .refused3 .ensures)
 
 returns-4 : tie.Need-returns-4
 unfolding postOf judgedPost

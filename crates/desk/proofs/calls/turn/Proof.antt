@@ -69,8 +69,11 @@ add-d c = past-fits _
 
 returns-3 : tie.Need-returns-3
 returns-3 c =
-    let s = c .before .before .before .before .before .before in
-    turn-halves (s .args .t1) _ (s .good .0) _ _ _ (sym (c .before .before .before .before .before .is-sound .ensures) ∙ not-false _ (c .before .before .before .before .if1 .left)) (rw (c .before .before .before .places-on .ensures) at (c .before .before .if2 .left)) (rw (c .before .before .before .places-on .ensures)) (c .halved .ensures)
+    let found = c .before .before in
+    let sound = found .before .before in
+    let s = sound .before .before in
+    let on = found .before .places-on .ensures in
+    turn-halves (s .args .t1) _ (s .good .0) _ _ _ (sym (sound .before .is-sound .ensures) ∙ not-false _ (sound .if1 .left)) (rw on at (found .if2 .left)) (rw on) (c .halved .ensures)
 
 pub turn-spec : {M : Type 1} → statement M
 turn-spec =
