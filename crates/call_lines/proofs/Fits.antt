@@ -4,7 +4,7 @@ use native.Mathlib.Omega.{arith}
 use lib.ListN.{length, length-append}
 use Rattle.text.specs.declared.Cell.the-variants.{Value}
 use Rattle.text.proofs.Lengths.{digits, column-short}
-use Rattle.states.specs.Equations.{regionOf}
+use Rattle.equations.specs.Equations.{regionOf}
 use Rattle.states.specs.declared.Single.{Single}
 use Rattle.ledger.specs.Search.{bit}
 use Rattle.desk.specs.declared.Answer.{Answer}

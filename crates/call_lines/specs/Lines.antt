@@ -2,7 +2,7 @@
 use Prim.Native.Nat.{ℕ}
 use mathlib.Core.List.{List, [], _∷_, _++_}
 use Rattle.text.specs.Texts.{blank, newline, numberColumn, floatColumn}
-use Rattle.states.specs.Equations.{regionOf}
+use Rattle.equations.specs.Equations.{regionOf}
 use Rattle.states.specs.declared.Single.{Single}
 use Rattle.ledger.specs.Search.{bit}
 use Rattle.desk.specs.declared.Answer.{Answer}

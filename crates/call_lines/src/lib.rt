@@ -1,8 +1,8 @@
 // The line of a call: its number and name, the refusal or 0, and what was handed out (specs/Lines.antt).
 use desk::Answer;
+use equations::region_of;
 use records::Call;
 use states::Single;
-use states::region_of;
 use text::Cell;
 ghost use mathlib.Core.Path.{_≡_};
 ghost use mathlib.Core.List.{[], _∷_, _++_};

@@ -14,7 +14,7 @@ use Rattle.settle.specs.declared.Judged.the-variants as Judged
 use Rattle.settle.specs.declared.Settled.{Settled}
 use Rattle.settle.specs.Phases.{regionOf, phaseOf}
 use Rattle.settle.specs.Settle.{judgedOf, halvedOf, settledOf}
-use Rattle.states.specs.declared.Phase.{Phase}
+use Rattle.equations.specs.declared.Phase.{Phase}
 use Rattle.desk.specs.declared.Answer.{Answer}
 use Rattle.desk.specs.declared.Answer.the-variants as Answer
 use Rattle.desk.specs.declared.Outcome.{Outcome}

@@ -6,7 +6,7 @@ use mathlib.Core.List.{List, [], _∷_, _++_}
 use Prim.Native.Nat.{ℕ, zero, suc, _+_, _%_, _≤_, _<_}
 use lib.Dec.{eqb, ltb}
 use lib.Ieee.{Float}
-use Rattle.states.specs.declared.Phase.{Phase}
+use Rattle.equations.specs.declared.Phase.{Phase}
 use Rattle.settle.specs.declared.Bracket.{Bracket}
 use Rattle.settle.specs.declared.Judged.the-variants.{Within}
 use Rattle.settle.specs.declared.Settled.{Settled}

@@ -30,7 +30,7 @@ fn say(call: &[u8], answer: Answer) {
         Answer::State(s) => {
             let single = s.single;
             let equation = single.equation;
-            line(call, 0, states::region_of(equation))
+            line(call, 0, equations::region_of(equation))
         }
         Answer::Freed => line(call, 0, 0),
     }

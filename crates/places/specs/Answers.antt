@@ -1,7 +1,7 @@
 -- What a place says in the paper's words: its number and region for each case. Definitions only.
 use Prim.Native.Nat.{ℕ}
-use Rattle.states.specs.Equations as Equations
-use Rattle.states.specs.Equations.{equationOf}
+use Rattle.equations.specs.Equations as Equations
+use Rattle.equations.specs.Equations.{equationOf}
 use Rattle.places.specs.declared.Place.{Place}
 use Rattle.places.specs.declared.Place.the-variants as Place
 use Rattle.places.specs.declared.Side.{Side}

@@ -11,8 +11,8 @@ use Rattle.places.specs.declared.Place.{Place}
 use Rattle.places.specs.declared.Place.the-variants.{Equation, Refused}
 use Rattle.places.specs.declared.Side.{Side}
 use Rattle.places.specs.declared.Side.the-variants as Side
-use Rattle.states.specs.declared.Equation.the-variants.{Region1, Region2, Region5}
-use Rattle.states.specs.declared.Phase.the-variants.{Liquid, Vapour}
+use Rattle.equations.specs.declared.Equation.the-variants.{Region1, Region2, Region5}
+use Rattle.equations.specs.declared.Phase.the-variants.{Liquid, Vapour}
 use Rattle.states.specs.declared.Given.{Given}
 use Rattle.states.specs.States.{propertyAt}
 

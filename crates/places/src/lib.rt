@@ -5,14 +5,14 @@ mod limits;
 mod ranges;
 mod tables;
 
+use equations::Equation;
+use equations::Phase;
 pub use limits::P_TRIPLE;
 pub use limits::T273;
 pub use limits::T1073;
 pub use limits::liquid_end;
 pub use limits::vapour_start;
 pub use ranges::wild;
-use states::Equation;
-use states::Phase;
 pub use tables::place_pt;
 pub use tables::place_py;
 

@@ -1,8 +1,8 @@
 // What an answer says in the paper's words: its number, region, mark and values
 // (specs/Answers.antt).
 use crate::Answer;
+use equations::region_of;
 use properties::Value;
-use states::region_of;
 ghost use mathlib.Core.Path.{_≡_};
 ghost use Rattle.reply.specs.Answers.{numberOf, regionOf, markOf, valuesOf};
 

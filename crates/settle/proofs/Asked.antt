@@ -10,7 +10,7 @@ use borrow.Author.Tests.{eqb-true}
 use Rattle.states.specs.Marks.{markedOf}
 use Rattle.states.specs.declared.Given.{Given}
 use Rattle.states.specs.declared.Given.the-variants.{Enthalpy, Entropy}
-use Rattle.states.specs.declared.Phase.the-variants.{Liquid, Vapour}
+use Rattle.equations.specs.declared.Phase.the-variants.{Liquid, Vapour}
 use Rattle.places.specs.Places.{placePY}
 use Rattle.places.specs.declared.Side.{Side}
 use Rattle.places.specs.declared.Side.the-variants as Side

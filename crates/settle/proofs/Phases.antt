@@ -2,8 +2,8 @@
 use mathlib.Core.Path.{_≡_, refl}
 use Prim.Native.Nat.{_≤_}
 use native.Mathlib.Omega.{arith}
-use Rattle.states.specs.declared.Phase.{Phase}
-use Rattle.states.specs.declared.Phase.the-variants.{Liquid, Vapour}
+use Rattle.equations.specs.declared.Phase.{Phase}
+use Rattle.equations.specs.declared.Phase.the-variants.{Liquid, Vapour}
 use Rattle.settle.specs.Phases.{regionOf, phaseOf}
 
 pub phase-region : (phase : Phase) → (1 ≤ regionOf phase) × (regionOf phase ≤ 2)

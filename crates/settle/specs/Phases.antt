@@ -2,10 +2,10 @@
 use Prim.Native.Nat.{ℕ}
 use mathlib.Core.Bool.{cond}
 use lib.Dec.{eqb}
-use Rattle.states.specs.Equations as Equations
-use Rattle.states.specs.Equations.{equationOf}
-use Rattle.states.specs.declared.Phase.{Phase}
-use Rattle.states.specs.declared.Phase.the-variants.{Liquid, Vapour}
+use Rattle.equations.specs.Equations as Equations
+use Rattle.equations.specs.Equations.{equationOf}
+use Rattle.equations.specs.declared.Phase.{Phase}
+use Rattle.equations.specs.declared.Phase.the-variants.{Liquid, Vapour}
 
 abbrev pub regionOf : Phase → ℕ
 regionOf phase = Equations.regionOf (equationOf phase)

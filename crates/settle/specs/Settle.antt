@@ -4,7 +4,7 @@ use mathlib.Core.Bool.{Bool, cond, _||_}
 use lib.Dec.{eqb}
 use lib.Ieee.{Float, lt}
 use Rattle.arith.specs.F64.{f64, _⊕_, _⊘_}
-use Rattle.states.specs.Equations.{equationOf}
+use Rattle.equations.specs.Equations.{equationOf}
 use Rattle.states.specs.States.{propertyAt}
 use Rattle.states.specs.Marks.{markedOf}
 use Rattle.places.specs.Places.{t273, t1073, placePY, liquidEnd, vapourStart}
@@ -12,8 +12,8 @@ use Rattle.places.specs.declared.Side.{Side}
 use Rattle.places.specs.declared.Side.the-variants as Side
 use Rattle.states.specs.declared.Given.{Given}
 use Rattle.states.specs.declared.Given.the-variants.{Enthalpy, Entropy}
-use Rattle.states.specs.declared.Phase.{Phase}
-use Rattle.states.specs.declared.Phase.the-variants.{Liquid, Vapour}
+use Rattle.equations.specs.declared.Phase.{Phase}
+use Rattle.equations.specs.declared.Phase.the-variants.{Liquid, Vapour}
 use Rattle.settle.specs.declared.Bracket.{Bracket}
 use Rattle.settle.specs.declared.Settled.{Settled}
 use Rattle.settle.specs.declared.Judged.{Judged}

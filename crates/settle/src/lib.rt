@@ -3,14 +3,14 @@
 // middle of the bracket. What each call answers is said in specs/.
 mod naming;
 
+use equations::Phase;
+use equations::equation_of;
 pub use naming::phase;
 pub use naming::region;
 use places::Side;
 use places::place_py;
 use states::Given;
-use states::Phase;
 use states::Single;
-use states::equation_of;
 ghost use mathlib.Core.Path.{_≡_};
 ghost use Rattle.settle.specs.Settle.{postedOf, givenOf, middleOf, bracketOf, judgedOf, halvedOf, settledOf};
 

@@ -1,8 +1,8 @@
 // How a row of the desk names the phase that is halved: by the number of its region
 // (specs/Phases.antt).
-use states::Phase;
-use states::equation_of;
-use states::region_of;
+use equations::Phase;
+use equations::equation_of;
+use equations::region_of;
 ghost use mathlib.Core.Path.{_≡_};
 ghost use Rattle.settle.specs.Phases.{regionOf, phaseOf};
 

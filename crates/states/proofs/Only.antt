@@ -2,12 +2,6 @@
 -- `Post` is the promise itself, read off the source, so a promise that said less would fail here.
 use mathlib.Core.Path.{sym, _∙_}
 use Rattle.arith.proofs.Only.{Only}
-use Rattle.states.proofs.equations.equation_of.Kinds as equation-of-kinds
-use Rattle.states.proofs.equations.equation_of.Reads as equation-of
-use Rattle.states.proofs.equations.is_of.Kinds as is-of-kinds
-use Rattle.states.proofs.equations.is_of.Reads as is-of
-use Rattle.states.proofs.equations.region_of.Kinds as region-of-kinds
-use Rattle.states.proofs.equations.region_of.Reads as region-of
 use Rattle.states.proofs.marks.carried.Kinds as carried-kinds
 use Rattle.states.proofs.marks.carried.Reads as carried
 use Rattle.states.proofs.marks.state_at.Kinds as state-at-kinds
@@ -40,12 +34,6 @@ both-near-only κs a x y s t p q = p ∙ sym q
 pub wet-at-only : Only 0 wet-at-kinds.ps wet-at-kinds.r wet-at.Post
 wet-at-only κs a x y s t p q = p ∙ sym q
 
-pub equation-of-only : Only 0 equation-of-kinds.ps equation-of-kinds.r equation-of.Post
-equation-of-only κs a x y s t p q = p ∙ sym q
-
-pub region-of-only : Only 0 region-of-kinds.ps region-of-kinds.r region-of.Post
-region-of-only κs a x y s t p q = p ∙ sym q
-
 pub carried-only : Only 0 carried-kinds.ps carried-kinds.r carried.Post
 carried-only κs a x y s t p q = p ∙ sym q
 
@@ -54,6 +42,3 @@ state-at-only κs a x y s t p q = p ∙ sym q
 
 pub slopes-at-only : Only 0 slopes-at-kinds.ps slopes-at-kinds.r slopes-at.Post
 slopes-at-only κs a x y s t p q = p ∙ sym q
-
-pub is-of-only : Only 0 is-of-kinds.ps is-of-kinds.r is-of.Post
-is-of-only κs a x y s t p q = p ∙ sym q

@@ -1,4 +1,3 @@
-pub mod Equations
 pub mod States
 pub mod Marks
 pub mod Mixing

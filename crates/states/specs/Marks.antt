@@ -9,7 +9,7 @@ use Rattle.states.specs.States.{stateAt, workedAt, givenOf}
 use Rattle.states.specs.declared.Given.{Given}
 use Rattle.states.specs.declared.Single.{Single}
 use Rattle.states.specs.declared.Full.{Full}
-use Rattle.states.specs.declared.Equation.{Equation}
+use Rattle.equations.specs.declared.Equation.{Equation}
 
 -- ---- the mark
 

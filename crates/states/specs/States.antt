@@ -8,12 +8,12 @@ use Rattle.vapour.specs.Region2.{gamma2, unrootedOf2, responseOf2}
 use Rattle.vapour.specs.Region5.{gamma5, unrootedOf5, responseOf5}
 use Rattle.slopes.specs.Slopes.{slopesPT}
 use Rattle.slopes.specs.declared.Slopes.{Slopes}
-use Rattle.states.specs.Equations.{equationOf}
+use Rattle.equations.specs.Equations.{equationOf}
 use Rattle.states.specs.declared.Given.{Given}
 use Rattle.states.specs.declared.Given.the-variants.{Enthalpy, Entropy}
-use Rattle.states.specs.declared.Equation.{Equation}
-use Rattle.states.specs.declared.Equation.the-variants.{Region1, Region2, Region5}
-use Rattle.states.specs.declared.Phase.{Phase}
+use Rattle.equations.specs.declared.Equation.{Equation}
+use Rattle.equations.specs.declared.Equation.the-variants.{Region1, Region2, Region5}
+use Rattle.equations.specs.declared.Phase.{Phase}
 use Rattle.states.specs.declared.worked.Worked.{Worked}
 
 -- the six properties, of w its square

@@ -2,14 +2,11 @@
 // it comes back to what was asked, and the wet states between saturated liquid and vapour. Every call
 // takes every number; what it answers is said in specs/. Units: p in MPa, T in K, v in m³/kg, u and h in
 // kJ/kg, s and cp in kJ/(kg K), w in m/s.
-mod equations;
 mod marks;
 mod mixing;
 mod worked;
 
-pub use equations::equation_of;
-pub use equations::is_of;
-pub use equations::region_of;
+use equations::Equation;
 pub use marks::both_near;
 pub use marks::carried;
 pub use marks::handed_out;
@@ -20,19 +17,6 @@ use properties::State;
 pub use worked::Worked;
 pub use worked::property;
 pub use worked::slopes_at;
-
-// The basic equation that a state of one phase is worked by: that of a region.
-pub enum Equation {
-    Region1,
-    Region2,
-    Region5,
-}
-
-// The phases that backward equations reach: liquid is worked in region 1, vapour in region 2.
-pub enum Phase {
-    Liquid,
-    Vapour,
-}
 
 // Which property a query gives beside p.
 pub enum Given {

@@ -1,19 +1,19 @@
 // Single-phase states with their marks (specs/Marks.antt).
-use crate::Equation;
 use crate::Full;
 use crate::Given;
-use crate::Phase;
 use crate::Single;
-use crate::equations::equation_of;
 use crate::worked::given_of;
 use crate::worked::unrooted_at;
 use crate::worked::worked_at;
+use equations::Equation;
+use equations::Phase;
+use equations::equation_of;
 use properties::Unrooted;
 use properties::rooted;
 ghost use mathlib.Core.Path.{_≡_};
 ghost use mathlib.Core.Bool.{true};
 ghost use Rattle.properties.specs.Properties.{rootedOf};
-ghost use Rattle.states.specs.Equations.{equationOf};
+ghost use Rattle.equations.specs.Equations.{equationOf};
 ghost use Rattle.states.specs.Marks.{near, verifiedOf, bothNear, singleOf, markedOf, markedBothOf, fullOf, handedOut};
 
 // The margins of a verified state: of h in kJ/kg, and of s in kJ/(kg K).

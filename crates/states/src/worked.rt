@@ -1,7 +1,7 @@
 // The properties of a state and its slopes, by a basic equation at p and T (specs/States.antt).
-use crate::Equation;
 use crate::Given;
-use crate::Phase;
+use equations::Equation;
+use equations::Phase;
 use liquid::Liquid;
 use liquid::Region1;
 use properties::Unrooted;
@@ -15,7 +15,7 @@ ghost use Rattle.liquid.specs.Region1.{unrootedOf1, responseOf1};
 ghost use Rattle.vapour.specs.Region2.{unrootedOf2, responseOf2};
 ghost use Rattle.vapour.specs.Region5.{unrootedOf5, responseOf5};
 ghost use Rattle.slopes.specs.Slopes.{slopesPT};
-ghost use Rattle.states.specs.Equations.{equationOf};
+ghost use Rattle.equations.specs.Equations.{equationOf};
 ghost use Rattle.states.specs.States.{unrootedAt, slopesAt, workedAt, givenOf, propertyAt};
 
 // The six properties with w squared, and the slopes, from one working of the sums.

@@ -5,9 +5,9 @@ use lib.Dec.{eqb}
 use lib.Ieee.{Float, le}
 use Rattle.states.specs.declared.Given.{Given}
 use Rattle.states.specs.declared.Given.the-variants.{Enthalpy, Entropy}
-use Rattle.states.specs.declared.Equation.{Equation}
-use Rattle.states.specs.declared.Phase.{Phase}
-use Rattle.states.specs.declared.Phase.the-variants.{Liquid, Vapour}
+use Rattle.equations.specs.declared.Equation.{Equation}
+use Rattle.equations.specs.declared.Phase.{Phase}
+use Rattle.equations.specs.declared.Phase.the-variants.{Liquid, Vapour}
 use Rattle.states.specs.declared.Wet.{Wet}
 use Rattle.states.specs.Marks.{singleOf, markedOf}
 use Rattle.places.specs.declared.Place.{Place}

@@ -8,7 +8,7 @@ use Rattle.backward.specs.T1ph.{t1ph}
 use Rattle.backward.specs.T1ps.{t1ps}
 use Rattle.backward.specs.P1hs.{p1hs}
 use Rattle.backward.specs.Region2.{t2ph, t2ps, p2hs}
-use Rattle.states.specs.Equations.{isOf, equationOf}
+use Rattle.equations.specs.Equations.{isOf, equationOf}
 use Rattle.states.specs.States.{stateAt, givenOf}
 use Rattle.states.specs.Marks.{bothNear, singleOf, markedOf, markedBothOf}
 use Rattle.states.specs.Mixing.{wetOf}
@@ -19,8 +19,8 @@ use Rattle.places.specs.declared.Place.{Place}
 use Rattle.places.specs.declared.Place.the-variants as Place
 use Rattle.places.specs.declared.Side.{Side}
 use Rattle.places.specs.declared.Side.the-variants as Side
-use Rattle.states.specs.declared.Phase.{Phase}
-use Rattle.states.specs.declared.Phase.the-variants.{Liquid, Vapour}
+use Rattle.equations.specs.declared.Phase.{Phase}
+use Rattle.equations.specs.declared.Phase.the-variants.{Liquid, Vapour}
 use Rattle.reply.specs.declared.Answer.{Answer}
 use Rattle.reply.specs.declared.Answer.the-variants.{Single, Wet, Refused}
 

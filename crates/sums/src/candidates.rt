@@ -1,14 +1,14 @@
 // The candidates of an (h,s) query (specs/Queries.antt).
 use crate::outcomes::Outcome;
 use crate::outcomes::temperature;
+use equations::Phase;
+use equations::is_of;
 use places::P_TRIPLE;
 use places::Place;
 use places::place_pt;
 use states::Given;
-use states::Phase;
 use states::both_near;
 use states::carried;
-use states::is_of;
 ghost use mathlib.Core.Path.{_≡_};
 ghost use Rattle.sums.specs.Queries.{pressureOf, isIn, agreedOf, candidateOf};
 ghost use Rattle.sums.specs.Outcomes.{outcomeOf};

@@ -2,18 +2,18 @@
 // worked there and nothing of the other (specs/Queries.antt, specs/Outcomes.antt). An (h,s) query works
 // a state to judge it, and carries that.
 use crate::candidates::candidate;
+use equations::Equation;
+use equations::Phase;
+use equations::equation_of;
 use places::Place;
 use places::Side;
 use places::place_pt;
 use places::place_py;
 use places::wild;
 use reply::Answer;
-use states::Equation;
 use states::Full;
 use states::Given;
-use states::Phase;
 use states::Wet;
-use states::equation_of;
 use states::handed_out;
 use states::marked;
 use states::state_at;

@@ -9,7 +9,7 @@ use lib.Seq.{getD-set-same}
 use lib.Dec.{ltb}
 use lib.Ieee.{Float}
 use borrow.Author.Tests.{ltb-true, ltb-false, le-ltb}
-use Rattle.states.specs.declared.Phase.{Phase}
+use Rattle.equations.specs.declared.Phase.{Phase}
 use Rattle.settle.specs.declared.Bracket.{Bracket}
 use Rattle.settle.specs.declared.Judged.the-variants.{Within}
 use Rattle.settle.specs.declared.Settled.{Settled}

@@ -1,10 +1,10 @@
 -- The basic equations by the numbers of their regions, and the equations of the two phases. Definitions only.
 use Prim.Native.Nat.{ℕ}
 use mathlib.Core.Bool.{Bool, true, false}
-use Rattle.states.specs.declared.Equation.{Equation}
-use Rattle.states.specs.declared.Equation.the-variants.{Region1, Region2, Region5}
-use Rattle.states.specs.declared.Phase.{Phase}
-use Rattle.states.specs.declared.Phase.the-variants.{Liquid, Vapour}
+use Rattle.equations.specs.declared.Equation.{Equation}
+use Rattle.equations.specs.declared.Equation.the-variants.{Region1, Region2, Region5}
+use Rattle.equations.specs.declared.Phase.{Phase}
+use Rattle.equations.specs.declared.Phase.the-variants.{Liquid, Vapour}
 
 abbrev pub regionOf : Equation → ℕ
 regionOf Region1 = 1

@@ -1,8 +1,8 @@
--- `states::equations::equation_of` meets its contract: by cases. Assumes nothing.
+-- `equations::names::equation_of` meets its contract: by cases. Assumes nothing.
 use mathlib.Core.Path.{refl}
 use borrow.Author.Needs.{needs}
-use Rattle.states.proofs.equations.equation_of.Statement.{statement}
-use Rattle.states.proofs.equations.equation_of.Tie as tie
+use Rattle.equations.proofs.names.equation_of.Statement.{statement}
+use Rattle.equations.proofs.names.equation_of.Tie as tie
 
 returns : tie.Need-returns
 returns c = rw (c .enum-told .given .1) refl

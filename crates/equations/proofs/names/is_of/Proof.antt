@@ -1,8 +1,8 @@
--- `states::equations::is_of` meets its contract: by cases. Assumes nothing.
+-- `equations::names::is_of` meets its contract: by cases. Assumes nothing.
 use mathlib.Core.Path.{refl}
 use borrow.Author.Needs.{needs}
-use Rattle.states.proofs.equations.is_of.Statement.{statement}
-use Rattle.states.proofs.equations.is_of.Tie as tie
+use Rattle.equations.proofs.names.is_of.Statement.{statement}
+use Rattle.equations.proofs.names.is_of.Tie as tie
 
 returns : tie.Need-returns
 returns c = rw (c .before .before .enum-told .given .1, c .enum-told2 .given .1) refl

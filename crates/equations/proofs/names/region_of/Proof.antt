@@ -1,8 +1,8 @@
--- `states::equations::region_of` meets its contract: by cases. Assumes nothing.
+-- `equations::names::region_of` meets its contract: by cases. Assumes nothing.
 use mathlib.Core.Path.{refl}
 use borrow.Author.Needs.{needs}
-use Rattle.states.proofs.equations.region_of.Statement.{statement}
-use Rattle.states.proofs.equations.region_of.Tie as tie
+use Rattle.equations.proofs.names.region_of.Statement.{statement}
+use Rattle.equations.proofs.names.region_of.Tie as tie
 
 returns : tie.Need-returns
 returns c = rw (c .enum-told .given .1) refl

@@ -2,7 +2,7 @@
 use crate::Equation;
 use crate::Phase;
 ghost use mathlib.Core.Path.{_≡_};
-ghost use Rattle.states.specs.Equations.{regionOf, isOf, equationOf};
+ghost use Rattle.equations.specs.Equations.{regionOf, isOf, equationOf};
 
 // The number of an equation's region.
 pub fn region_of(equation: Equation) -> u64
