@@ -25,7 +25,7 @@ pub data Value : Type 0 where
   kelvin : Float → Value
   state : Settled → Value
 
--- a post hands out its ticket, a peek the halvings done, lo and hi, a collect the state; a turn, a withdraw and a refusal hand out nothing
+-- a post hands out its ticket, a peek the halvings done, lo and hi, a collect the state; that a turn halved or idled is no value, and a withdraw and a refusal hand out nothing
 abbrev pub valuesOf : Answer → List Value
 valuesOf (Answer.Refused n) = []
 valuesOf (Answer.Ticket t) = whole t ∷ []

@@ -1,5 +1,5 @@
--- Every text fits the room that its program lends, so that none is cut: a sheet that reads has at most 2,500 rows in any version, and its note at most
--- 4,096 bytes. Assumes nothing.
+-- Every text fits the room that its program lends, so that none is cut: a sheet that reads has at most 1,000 rows, for which the rooms have more than space
+-- enough, and its note at most 4,096 bytes. Assumes nothing.
 use Prim.Native.Nat.{ℕ, _+_, _*_, _/_, _%_, _≤_}
 use native.Mathlib.Omega.{arith}
 use borrow.Author.Needs.{zero≤}

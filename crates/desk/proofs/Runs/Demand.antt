@@ -103,7 +103,7 @@ module _ (d : Desk) (long : length (d .rows) ≡ 32) (wide : length (d .counts) 
   pub row-is-free : (c : ℕ) → c < 8 → tally (ofCaller c) d < 4 → lowest vacant d < 32
   row-is-free c l h = free-row d (good .rows) c l h
 
-  -- A post that gets a ticket gets its caller's own count, which goes one on, and a row holds from then on what was asked.
+  -- A post that gets a ticket gets its caller's own count, which goes one on, and a row of the desk that it leaves holds what was asked.
   pub post-by-row : (c kind : ℕ) (p y : Float) (t : ℕ) → step d (post c kind p y) .answer ≡ Ticket t
       → (t ≡ counted d c)
       × (counted (step d (post c kind p y) .desk) c ≡ t + 1)
