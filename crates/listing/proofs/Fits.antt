@@ -8,61 +8,26 @@ use mathlib.Core.Bool.{Bool, true, false, cond}
 use mathlib.Core.List.{List, [], _++_}
 use lib.Dec.{ltb, eqb}
 use lib.ListN.{length, take, getD, length-append, length-take}
-use Rattle.text.specs.Texts.{joined, blank, newline}
-use Rattle.text.proofs.Lengths.{digits, column-short, joined-short}
-use Rattle.arith.specs.Bits.{floatOf}
-use Rattle.reply.specs.Answers.{numberOf, regionOf, valuesOf}
-use Rattle.slopes.specs.Answers as Slopes
-use Rattle.sums.specs.Quotients.{quotientOf}
-use Rattle.reply.specs.declared.Answer.{Answer}
-use Rattle.properties.specs.declared.Value.{Value}
-use Rattle.properties.specs.declared.Value.the-variants.{Missing}
+use Rattle.text.specs.Texts.{joined, newline}
+use Rattle.text.proofs.Lengths.{joined-short}
 use Rattle.sheet.specs.declared.rows.Point.{Point}
 use Rattle.sheet.specs.Read.{readOf}
 use Rattle.sheet.specs.Rows.{rowOf}
 use Rattle.sheet.specs.declared.reader.Reading.{Reading}
 use Rattle.sheet.specs.declared.reader.Reading.the-variants.{Rows, Refused}
 use Rattle.sheet.proofs.ReadLaws.{trailer-rows, read-inv, read-fits}
-use Rattle.listing.specs.Lines.{cellOf, askedOf, verdictOf, valueColumn, valueColumns, answerLine, quotientLine, tripleLine, quotientLines, refusedLine}
+use Rattle.row_lines.specs.Lines.{refusedLine, askedOf, tripleLine, quotientLines}
+use Rattle.row_lines.proofs.Fits.{refused-short, verdict-short, answer-short, quotient-short}
 use Rattle.listing.specs.Listings.{longest, openedOf, headerOf, rowLine, lineAt, listedOf, regionsText, answersText, inTriples, triplesOf, quotientsHead, quotientsRow}
 use Rattle.listing.specs.declared.Listing.{Listing}
 use Rattle.listing.specs.declared.Listing.the-variants.{Regions, Answers}
 
 -- ---- lines
 
-pub refused-short : (n : ℕ) → length (refusedLine n) ≤ 29
-unfolding refusedLine
-refused-short n = simp length-append (omega (arith, digits n))
-
-verdict-short : (number kind : ℕ) (a : Answer) (end : ℕ) → length (verdictOf number kind a end) ≤ 84
-unfolding verdictOf
-verdict-short number kind a end = simp length-append (omega (arith, digits number, digits kind, digits (numberOf a), digits (regionOf a)))
-
-value-short : (values : List Value) (end i : ℕ) → length (valueColumn values end i) ≤ 17
-value-short values end i = simp length-append (omega (arith, column-short (cellOf (getD values i Missing))))
-
-values-short : (values : List Value) → length (valueColumns values) ≤ 153
-unfolding valueColumns
-values-short values =
-    omega
-    (arith, length-append (joined (valueColumn values blank) 8) (valueColumn values newline 8), joined-short (valueColumn values blank) 17 8 (value-short values blank), value-short values newline 8)
-
-answer-short : (number : ℕ) (row : Point) → length (answerLine number row) ≤ 239
-unfolding answerLine
-answer-short number row =
-    let a = askedOf row in
-    simp length-append (omega (arith, verdict-short number (row .kind) a blank, values-short (valuesOf a)))
-
 row-short : (listing : Listing) (number : ℕ) (row : Point) → length (rowLine listing number row) ≤ 239
 unfolding rowLine
 row-short Regions number row = omega (arith, verdict-short number (row .kind) (askedOf row) newline)
 row-short Answers number row = answer-short number row
-
-quotient-short : (number : ℕ) (row : Point) (z x y : ℕ) → length (quotientLine number row z x y) ≤ 122
-unfolding quotientLine
-quotient-short number row z x y =
-    let q = quotientOf (row .kind) (floatOf (row .first)) (floatOf (row .second)) z x y in
-    simp length-append (omega (arith, digits number, digits z, digits x, digits y, digits (Slopes.numberOf q), column-short (cellOf (Slopes.valueOf q))))
 
 -- ---- texts
 

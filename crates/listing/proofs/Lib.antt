@@ -1,4 +1,3 @@
--- `NineValues`: the values of an answer. `Fits`: no text is cut. `Only`: no second result.
-pub mod NineValues
+-- `Fits`: no text is cut. `Only`: no second result.
 pub mod Fits
 pub mod Only

@@ -4,8 +4,6 @@ use mathlib.Core.Path.{sym, _∙_}
 use denote.Ref.{now}
 use Rattle.arith.proofs.Only.{Only}
 use Rattle.text.proofs.Only.{OnlyRoom}
-use Rattle.listing.proofs.lines.refused.Kinds as refused-kinds
-use Rattle.listing.proofs.lines.refused.Reads as refused
 use Rattle.listing.proofs.listings.regions.Kinds as regions-kinds
 use Rattle.listing.proofs.listings.regions.Reads as regions
 use Rattle.listing.proofs.listings.answers.Kinds as answers-kinds
@@ -16,9 +14,6 @@ use Rattle.listing.proofs.derivatives.quotients_head.Kinds as quotients
 use Rattle.listing.proofs.derivatives.quotients_head.Reads as quotients-head
 use Rattle.listing.proofs.derivatives.quotients.Kinds as quotients-kinds
 use Rattle.listing.proofs.derivatives.quotients.Reads as quotients
-
-pub refused-only : OnlyRoom 1 refused-kinds.ps refused-kinds.r (λ κs s. now (s .1 .0)) refused.Post
-refused-only κs a x y s t p q = (p .place ∙ sym (q .place), p .room ∙ sym (q .room))
 
 pub regions-only : OnlyRoom 2 regions-kinds.ps regions-kinds.r (λ κs s. now (s .1 .0)) regions.Post
 regions-only κs a x y s t p q = (p .place ∙ sym (q .place), p .room ∙ sym (q .room))

@@ -12,7 +12,7 @@ use Rattle.sheet.specs.declared.rows.Point.{Point}
 use Rattle.listing.specs.declared.Listing.{Listing}
 use Rattle.listing.specs.declared.Listing.the-variants.{Regions, Answers}
 use Rattle.text.specs.Texts.{joined, newline}
-use Rattle.listing.specs.Lines.{refusedLine, regionLine, answerLine, quotientLines}
+use Rattle.row_lines.specs.Lines.{refusedLine, regionLine, answerLine, quotientLines}
 
 -- the longest sheet: a note of 4,096 bytes, 1,000 rows and the trailer
 abbrev pub longest : ℕ

@@ -1,13 +1,13 @@
 // The text of `quotients` (specs/Listings.antt). A full note has 1,365 triples and a full sheet 1,000
 // rows, so the text is written part by part: its head, and then the lines of one row after the other.
-use crate::columns::cell;
-use crate::lines::refused;
 use crate::opening::note;
+use row_lines::quotient_line;
+use row_lines::refused;
 use sheet::Point;
 use sheet::Reading;
 ghost use mathlib.Core.Path.{_≡_};
 ghost use Rattle.text.specs.Room.{Written};
-ghost use Rattle.listing.specs.Lines.{quotientLine, quotientLines};
+ghost use Rattle.row_lines.specs.Lines.{quotientLines};
 ghost use Rattle.listing.specs.Listings.{quotientsHead, quotientsRow};
 
 // A byte as a property's number.
@@ -15,21 +15,6 @@ fn wide(x: u8) -> u64
     ensures { λ r. ⌜ r ≡ x ⌝ }
 {
     x as u64
-}
-
-// Writes a row's number, the properties z, x, y, the refusal and the value.
-fn line(number: u64, row: Point, z: u64, x: u64, y: u64, out: &mut [u8], at: usize) -> usize
-    ensures { λ r. ⌜ Written (now (out .entry)) at (quotientLine number row z x y) (now (out .exit)) r ⌝ }
-{
-    let c = arith::float_of(row.first);
-    let d = arith::float_of(row.second);
-    let q = sums::quotient(row.kind, c, d, z, x, y);
-    let at = text::decimal(number, b' ', out, at);
-    let at = text::decimal(z, b' ', out, at);
-    let at = text::decimal(x, b' ', out, at);
-    let at = text::decimal(y, b' ', out, at);
-    let at = text::decimal(slopes::number(q), b' ', out, at);
-    text::column(cell(slopes::value(q)), b'\n', out, at)
 }
 
 // Writes a row's line for each triple of the note in turn.
@@ -41,7 +26,7 @@ fn lines(number: u64, row: Point, note: &[u8], out: &mut [u8]) -> usize
     let mut k = 0;
     while k < n {
         let i = 3 * k;
-        p = line(
+        p = quotient_line(
             number,
             row,
             wide(note[i]),

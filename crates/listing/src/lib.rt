@@ -1,7 +1,6 @@
 // What the sheet programs write of a point sheet (specs/Listings.antt): the text goes into a slice
 // that the caller lends, its room, and the place behind it is answered. Where the room ends first, the
 // text is cut there.
-mod columns;
 mod derivatives;
 mod lines;
 mod listings;
@@ -9,7 +8,6 @@ mod opening;
 
 pub use derivatives::quotients;
 pub use derivatives::quotients_head;
-pub use lines::refused;
 pub use listings::answers;
 pub use listings::regions;
 pub use opening::triples;

@@ -1,23 +1,12 @@
-// The lines of the listings (specs/Lines.antt).
+// The lines of the listings (specs/Listings.antt).
 use crate::Listing;
-use crate::columns::asked;
-use crate::columns::mark;
-use crate::columns::values;
-use crate::columns::verdict;
+use row_lines::answer_line;
+use row_lines::region_line;
 use sheet::Point;
 ghost use mathlib.Core.Path.{_≡_};
 ghost use Rattle.text.specs.Room.{Written};
 ghost use Rattle.text.specs.Texts.{joined};
-ghost use Rattle.listing.specs.Lines.{refusedLine, regionLine, answerLine};
 ghost use Rattle.listing.specs.Listings.{headerOf, rowLine, lineAt};
-
-// Writes `refused N`, all that is said of a refused sheet.
-pub fn refused(number: u64, out: &mut [u8]) -> usize
-    ensures { λ r. ⌜ Written (now (out .entry)) 0 (refusedLine number) (now (out .exit)) r ⌝ }
-{
-    let at = text::bytes(b"refused ", out, 0);
-    text::decimal(number, b'\n', out, at)
-}
 
 // Writes a listing's header.
 pub(crate) fn header(listing: Listing, out: &mut [u8]) -> usize
@@ -31,24 +20,6 @@ pub(crate) fn header(listing: Listing, out: &mut [u8]) -> usize
             0,
         ),
     }
-}
-
-// Writes a row's number, kind, refusal and region.
-fn region_line(number: u64, row: Point, out: &mut [u8], at: usize) -> usize
-    ensures { λ r. ⌜ Written (now (out .entry)) at (regionLine number row) (now (out .exit)) r ⌝ }
-{
-    verdict(number, row.kind, asked(row), b'\n', out, at)
-}
-
-// Writes the same, the mark and the nine values.
-fn answer_line(number: u64, row: Point, out: &mut [u8], at: usize) -> usize
-    ensures { λ r. ⌜ Written (now (out .entry)) at (answerLine number row) (now (out .exit)) r ⌝ }
-{
-    let a = asked(row);
-    let marked = [mark(a), b' '];
-    let at = verdict(number, row.kind, a, b' ', out, at);
-    let at = text::bytes(&marked, out, at);
-    values(a, out, at)
 }
 
 // Writes a row's line.

@@ -2,8 +2,8 @@
 use crate::Listing;
 use crate::lines::header;
 use crate::lines::lines;
-use crate::lines::refused;
 use crate::opening::opened;
+use row_lines::refused;
 ghost use Rattle.text.specs.Room.{Written};
 ghost use Rattle.listing.specs.Listings.{openedOf, listedOf, regionsText, answersText};
 

@@ -13,7 +13,7 @@ use Rattle.sheet.specs.declared.writer.Writing.{Writing}
 use Rattle.sheet.specs.declared.writer.Writing.the-variants.{Length, Refused}
 use Rattle.sheet.proofs.WriteLaws.{written, sheet-length, room-sheet, refused-number, refused-keeps}
 use Rattle.sheet.specs.Words.{wordOf}
-use Rattle.listing.specs.Lines.{refusedLine}
+use Rattle.row_lines.specs.Lines.{refusedLine}
 use Rattle.listing.specs.Listings.{longest}
 use Rattle.written.specs.Written.{noteEnd, answerText, writtenText}
 

@@ -7,7 +7,7 @@ use lib.ListN.{length, take, drop}
 use Rattle.sheet.specs.Words.{wordOf}
 use Rattle.sheet.specs.Write.{numberOf, sheetOf, writeOf}
 use Rattle.sheet.specs.declared.writer.Writing.{Writing}
-use Rattle.listing.specs.Lines.{refusedLine}
+use Rattle.row_lines.specs.Lines.{refusedLine}
 use Rattle.listing.specs.Listings.{longest}
 
 -- the note: behind the two words, as many bytes as the first asks for, and at most what is there

@@ -41,7 +41,7 @@ fn answered(note: &[u8], rows: &[u8], most: usize, room: &mut [u8]) -> usize
     if w.number() == 0 {
         return w.length();
     }
-    listing::refused(w.number(), room)
+    row_lines::refused(w.number(), room)
 }
 
 // Writes what is printed for what is given.

@@ -7,7 +7,7 @@ use lib.ListN.{length, take, drop, length-append, length-drop}
 use lib.Seq.{length-take-le}
 use Rattle.text.specs.Room.{Whole}
 use Rattle.text.proofs.Pieces.{uncut}
-use Rattle.listing.proofs.Fits.{refused-short}
+use Rattle.row_lines.proofs.Fits.{refused-short}
 use Rattle.written.proofs.Laws.{answered, refusal, room-kept}
 use borrow.Author.Needs.{needs}
 use Rattle.written.proofs.answered.Statement.{statement}

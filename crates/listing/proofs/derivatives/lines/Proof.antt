@@ -7,7 +7,7 @@ use lib.ListN.{getD}
 use Rattle.text.specs.Room.{Written}
 use Rattle.text.proofs.Pieces.{said, kept}
 use Rattle.text.specs.Texts.{joined}
-use Rattle.listing.specs.Lines.{quotientLine, tripleLine, quotientLines}
+use Rattle.row_lines.specs.Lines.{quotientLine, tripleLine, quotientLines}
 use Rattle.text.proofs.Joined.{begun, turned, ended}
 use Rattle.listing.proofs.derivatives.lines.Statement.{statement}
 use Rattle.listing.proofs.derivatives.lines.Tie as tie
@@ -48,8 +48,8 @@ shared-slice-read-wide-3 c = omega arith
 wide-requires-3 : tie.Need-wide-requires-3 Inv-loop μ-loop
 wide-requires-3 c κs = tt
 
-line-requires : tie.Need-line-requires Inv-loop μ-loop
-line-requires c κs = tt
+quotient-line-requires : tie.Need-quotient-line-requires Inv-loop μ-loop
+quotient-line-requires c κs = tt
 
 add-k : tie.Need-add-k Inv-loop μ-loop
 add-k c = omega arith
@@ -74,7 +74,7 @@ loop-again c =
           (ap (λ (n : ℕ). of n (x .wide2 .result) (y .wide3 .result)) (z .wide .ensures)
           ∙ ap (λ (n : ℕ). of (getD note (3 * k) 0) n (y .wide3 .result)) (x .wide2 .ensures)
           ∙ ap (of (getD note (3 * k) 0) (getD note (3 * k + 1) 0)) (y .wide3 .ensures))
-          (line .line .ensures)),
+          (line .quotient-line .ensures)),
     )
 
 same-length : tie.Need-same-length Inv-loop μ-loop
@@ -100,7 +100,7 @@ lines-spec =
     add-wide-2
     shared-slice-read-wide-3
     wide-requires-3
-    line-requires
+    quotient-line-requires
     add-k
     loop-less
     loop-again

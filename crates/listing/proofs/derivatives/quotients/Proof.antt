@@ -12,7 +12,7 @@ use Rattle.sheet.specs.Rows.{rowOf}
 use Rattle.sheet.specs.declared.reader.Reading.{Reading}
 use Rattle.sheet.specs.declared.reader.Reading.the-variants.{Rows, Refused}
 use Rattle.sheet.specs.declared.rows.Point.{Point}
-use Rattle.listing.specs.Lines.{quotientLines}
+use Rattle.row_lines.specs.Lines.{quotientLines}
 use Rattle.listing.specs.Listings.{quotientsRow}
 use borrow.Author.Needs.{needs}
 use Rattle.listing.proofs.derivatives.quotients.Statement.{statement}

@@ -8,7 +8,7 @@ use Rattle.text.specs.Texts.{joined}
 use Rattle.text.proofs.Pieces.{then, said}
 use Rattle.sheet.specs.Read.{numberOf, countOf, startOf}
 use Rattle.sheet.specs.declared.reader.Reading.{Reading}
-use Rattle.listing.specs.Lines.{refusedLine}
+use Rattle.row_lines.specs.Lines.{refusedLine}
 use Rattle.listing.specs.Listings.{openedOf, headerOf, lineAt, listedOf}
 use Rattle.listing.specs.declared.Listing.{Listing}
 use Rattle.listing.proofs.listings.listed.Statement.{statement}

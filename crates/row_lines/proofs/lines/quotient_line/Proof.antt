@@ -1,4 +1,4 @@
--- `listing::derivatives::line` meets its contract: six columns, one behind the other. Assumes nothing.
+-- `row_lines::lines::quotient_line` meets its contract: six columns, one behind the other. Assumes nothing.
 use Prim.Native.Nat.{ℕ}
 use mathlib.Core.Path.{_≡_, ap, _∙_}
 use mathlib.Core.List.{List, [], _∷_, _++_}
@@ -9,10 +9,10 @@ use Rattle.text.proofs.Pieces.{then, said}
 use Rattle.sums.specs.Quotients.{quotientOf}
 use Rattle.slopes.specs.declared.Derivative.{Derivative}
 use Rattle.slopes.specs.Answers.{numberOf, valueOf}
-use Rattle.listing.specs.Lines.{cellOf, quotientLine}
+use Rattle.row_lines.specs.Lines.{cellOf, quotientLine}
 use borrow.Author.Needs.{needs}
-use Rattle.listing.proofs.derivatives.line.Statement.{statement}
-use Rattle.listing.proofs.derivatives.line.Tie as tie
+use Rattle.row_lines.proofs.lines.quotient_line.Statement.{statement}
+use Rattle.row_lines.proofs.lines.quotient_line.Tie as tie
 
 -- the line of a derivative
 abbrev columns : ℕ → ℕ → ℕ → ℕ → Derivative → List ℕ
@@ -87,8 +87,8 @@ returns c =
     (said (ap (λ (n : ℕ). numberColumn n blank) (refusal .number .ensures)) (fifth .decimal5 .ensures)))
     (said (ap (λ (x : Cell). columnOf x ++ newline ∷ []) (cell .cell .ensures ∙ ap cellOf (value .value .ensures))) (column .column .ensures)))
 
-pub line-spec : {M : Type 1} → statement M
-line-spec =
+pub quotient-line-spec : {M : Type 1} → statement M
+quotient-line-spec =
     tie.close
     (tie.spec
     float-of-requires

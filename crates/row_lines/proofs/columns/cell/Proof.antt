@@ -1,7 +1,7 @@
--- `listing::columns::cell` meets its contract, case by case. Assumes nothing.
+-- `row_lines::columns::cell` meets its contract, case by case. Assumes nothing.
 use borrow.Author.Needs.{needs}
-use Rattle.listing.proofs.columns.cell.Statement.{statement}
-use Rattle.listing.proofs.columns.cell.Tie as tie
+use Rattle.row_lines.proofs.columns.cell.Statement.{statement}
+use Rattle.row_lines.proofs.columns.cell.Tie as tie
 
 enum-known-v : tie.Need-enum-known-v
 enum-known-v c = search needs

@@ -1,12 +1,12 @@
--- `listing::columns::verdict` meets its contract: four columns, one behind the other. Assumes nothing.
+-- `row_lines::columns::verdict` meets its contract: four columns, one behind the other. Assumes nothing.
 use Prim.Native.Nat.{ℕ}
 use mathlib.Core.Path.{ap}
 use Rattle.text.proofs.Pieces.{then, said}
 use Rattle.text.specs.Texts.{blank, numberColumn}
-use Rattle.listing.specs.Lines.{verdictOf}
+use Rattle.row_lines.specs.Lines.{verdictOf}
 use borrow.Author.Needs.{needs}
-use Rattle.listing.proofs.columns.verdict.Statement.{statement}
-use Rattle.listing.proofs.columns.verdict.Tie as tie
+use Rattle.row_lines.proofs.columns.verdict.Statement.{statement}
+use Rattle.row_lines.proofs.columns.verdict.Tie as tie
 
 decimal-requires : tie.Need-decimal-requires
 decimal-requires c κs = search needs

@@ -1,4 +1,4 @@
--- `listing::lines::answer_line` meets its contract: verdict, mark and values on the row's query, one behind the other. Assumes nothing.
+-- `row_lines::lines::answer_line` meets its contract: verdict, mark and values on the row's query, one behind the other. Assumes nothing.
 use Prim.Native.Nat.{ℕ}
 use mathlib.Core.Path.{ap}
 use mathlib.Core.List.{[], _∷_, _++_}
@@ -6,10 +6,10 @@ use Rattle.text.proofs.Pieces.{then, said}
 use Rattle.reply.specs.Answers.{valuesOf}
 use Rattle.reply.specs.declared.Answer.{Answer}
 use Rattle.text.specs.Texts.{blank}
-use Rattle.listing.specs.Lines.{verdictOf, markByte, valueColumns, answerLine}
+use Rattle.row_lines.specs.Lines.{verdictOf, markByte, valueColumns, answerLine}
 use borrow.Author.Needs.{needs}
-use Rattle.listing.proofs.lines.answer_line.Statement.{statement}
-use Rattle.listing.proofs.lines.answer_line.Tie as tie
+use Rattle.row_lines.proofs.lines.answer_line.Statement.{statement}
+use Rattle.row_lines.proofs.lines.answer_line.Tie as tie
 
 asked-requires : tie.Need-asked-requires
 asked-requires c κs = search needs

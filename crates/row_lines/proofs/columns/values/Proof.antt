@@ -1,21 +1,21 @@
--- `listing::columns::values` meets its contract: a loop of eight columns, and the ninth. Assumes nothing.
+-- `row_lines::columns::values` meets its contract: a loop of eight columns, and the ninth. Assumes nothing.
 use mathlib.Core.List.{[], _∷_, _++_}
 use Rattle.text.specs.Texts.{columnOf, joined, blank, newline}
 use Rattle.text.specs.declared.Cell.{Cell}
 use Rattle.properties.specs.declared.Value.{Value}
 use Rattle.properties.specs.declared.Value.the-variants.{Missing}
-use Rattle.listing.specs.Lines.{cellOf}
-use Rattle.listing.proofs.NineValues.{value-at}
+use Rattle.row_lines.specs.Lines.{cellOf}
+use Rattle.row_lines.proofs.NineValues.{value-at}
 use Prim.Native.Nat.{ℕ, _-_, _≤_}
 use mathlib.Core.Path.{_≡_, ap, _∙_}
 use native.Mathlib.Omega.{arith}
 use borrow.Author.Needs.{needs}
 use Rattle.text.specs.Room.{Written}
 use Rattle.text.proofs.Pieces.{then, said, kept}
-use Rattle.listing.specs.Lines.{valueColumn, valueColumns}
+use Rattle.row_lines.specs.Lines.{valueColumn, valueColumns}
 use Rattle.text.proofs.Joined.{begun, turned, ended}
-use Rattle.listing.proofs.columns.values.Statement.{statement}
-use Rattle.listing.proofs.columns.values.Tie as tie
+use Rattle.row_lines.proofs.columns.values.Statement.{statement}
+use Rattle.row_lines.proofs.columns.values.Tie as tie
 
 -- the column of a value that is read
 written : (end : ℕ) (x : Cell) (u v : Value) → x ≡ cellOf u → u ≡ v → columnOf x ++ end ∷ [] ≡ columnOf (cellOf v) ++ end ∷ []

@@ -6,7 +6,7 @@ use text::Cell;
 ghost use mathlib.Core.Path.{_≡_};
 ghost use Rattle.text.specs.Room.{Written};
 ghost use Rattle.reply.specs.Answers.{valuesOf};
-ghost use Rattle.listing.specs.Lines.{askedOf, verdictOf, digitOf, markByte, cellOf, valueColumns};
+ghost use Rattle.row_lines.specs.Lines.{askedOf, verdictOf, digitOf, markByte, cellOf, valueColumns};
 
 // The query of a row.
 pub(crate) fn asked(row: Point) -> Answer

@@ -1,9 +1,9 @@
--- `listing::lines::refused` meets its contract: a word and a number, one behind the other. Assumes nothing.
+-- `row_lines::lines::refused` meets its contract: a word and a number, one behind the other. Assumes nothing.
 use Rattle.text.proofs.Pieces.{then}
-use Rattle.listing.specs.Lines.{refusedLine}
+use Rattle.row_lines.specs.Lines.{refusedLine}
 use borrow.Author.Needs.{needs}
-use Rattle.listing.proofs.lines.refused.Statement.{statement}
-use Rattle.listing.proofs.lines.refused.Tie as tie
+use Rattle.row_lines.proofs.lines.refused.Statement.{statement}
+use Rattle.row_lines.proofs.lines.refused.Tie as tie
 
 slice-aggregate-bytes : tie.Need-slice-aggregate-bytes
 slice-aggregate-bytes c = search needs

@@ -1,11 +1,11 @@
--- `listing::columns::asked` meets its contract: the query at the values of the row's bits. Assumes nothing.
+-- `row_lines::columns::asked` meets its contract: the query at the values of the row's bits. Assumes nothing.
 use mathlib.Core.Path.{ap, _∙_}
 use lib.Ieee.{Float}
 use Rattle.arith.specs.Bits.{floatOf}
 use Rattle.sums.specs.Queries.{answerOf}
 use borrow.Author.Needs.{needs}
-use Rattle.listing.proofs.columns.asked.Statement.{statement}
-use Rattle.listing.proofs.columns.asked.Tie as tie
+use Rattle.row_lines.proofs.columns.asked.Statement.{statement}
+use Rattle.row_lines.proofs.columns.asked.Tie as tie
 
 float-of-requires : tie.Need-float-of-requires
 float-of-requires c κs = search needs

@@ -1,12 +1,12 @@
--- `listing::lines::region_line` meets its contract: the verdict on the row's query. Assumes nothing.
+-- `row_lines::lines::region_line` meets its contract: the verdict on the row's query. Assumes nothing.
 use mathlib.Core.Path.{ap}
 use Rattle.text.proofs.Pieces.{said}
 use Rattle.reply.specs.declared.Answer.{Answer}
 use Rattle.text.specs.Texts.{newline}
-use Rattle.listing.specs.Lines.{verdictOf}
+use Rattle.row_lines.specs.Lines.{verdictOf}
 use borrow.Author.Needs.{needs}
-use Rattle.listing.proofs.lines.region_line.Statement.{statement}
-use Rattle.listing.proofs.lines.region_line.Tie as tie
+use Rattle.row_lines.proofs.lines.region_line.Statement.{statement}
+use Rattle.row_lines.proofs.lines.region_line.Tie as tie
 
 asked-requires : tie.Need-asked-requires
 asked-requires c κs = search needs
