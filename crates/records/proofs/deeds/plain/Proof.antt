@@ -1,4 +1,5 @@
 -- `records::deeds::plain` meets its contract: its tests are the definition's own. Assumes nothing.
+use mathlib.Core.Path.{refl}
 use borrow.Author.Tests.{eq-eqb, ne-eqb, le-leb, lt-leb}
 use Rattle.records.specs.Records.{plainOf}
 use borrow.Author.Needs.{needs}
@@ -17,7 +18,7 @@ returns c = simp (eq-eqb _ _ (c .before .before .if1 .taken)) (cc)
 
 returns-2 : tie.Need-returns-2
 unfolding plainOf
-returns-2 c = simp (ne-eqb _ _ (c .before .before .if1 .left), eq-eqb _ _ (c .before .if2 .taken), le-leb _ _ (c .if3 .taken))
+returns-2 c = simp (ne-eqb _ _ (c .before .before .if1 .left), eq-eqb _ _ (c .before .if2 .taken), le-leb _ _ (c .if3 .taken)) refl
 
 returns-3 : tie.Need-returns-3
 unfolding plainOf

@@ -1,7 +1,7 @@
 -- `sheet::reader::judge` meets its contract: at each `return` the tests that led there say which case of `judged` holds. Assumes nothing.
 use borrow.Author.Needs.{needs}
 use borrow.Author.Tests.{not-true, not-false, eq-eqb, ne-eqb, le-leb, lt-leb}
-use mathlib.Core.Path.{_≡_, sym, _∙_}
+use mathlib.Core.Path.{_≡_, refl, sym, _∙_}
 use mathlib.Core.Bool.{true}
 use Rattle.sheet.specs.Versions.{known, allowed}
 use Rattle.sheet.specs.Read.{judged}
@@ -57,7 +57,7 @@ unfolding judged
 returns-6 c =
     let e3 = c .before .before .before in
     let e2 = e3 .before .before in
-    simp (k1 (e2 .before), eq-eqb _ _ (e2 .if2 .left), k3 e3, eq-eqb _ _ (c .before .before .if4 .left), le-leb _ _ (c .before .if5 .left), lt-leb _ _ (c .if6 .taken))
+    simp (k1 (e2 .before), eq-eqb _ _ (e2 .if2 .left), k3 e3, eq-eqb _ _ (c .before .before .if4 .left), le-leb _ _ (c .before .if5 .left), lt-leb _ _ (c .if6 .taken)) refl
 
 returns-7 : tie.Need-returns-7
 unfolding judged

@@ -1,4 +1,5 @@
 -- `sheet::rows::kind_known` meets its contract: the two tests are those of the definition. Assumes nothing.
+use mathlib.Core.Path.{refl}
 use borrow.Author.Tests.{le-leb, lt-leb}
 use Rattle.sheet.specs.Rows.{kindKnown}
 use Rattle.sheet.proofs.rows.kind_known.Statement.{statement}
@@ -6,7 +7,7 @@ use Rattle.sheet.proofs.rows.kind_known.Tie as tie
 
 returns : tie.Need-returns
 unfolding kindKnown
-returns c = simp (le-leb _ _ (c .if1 .taken))
+returns c = simp (le-leb _ _ (c .if1 .taken)) refl
 
 returns-2 : tie.Need-returns-2
 unfolding kindKnown

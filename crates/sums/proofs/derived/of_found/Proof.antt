@@ -1,4 +1,5 @@
 -- `sums::derived::of_found` meets its contract: by cases; the numbers were judged before. Assumes nothing.
+use mathlib.Core.Path.{refl}
 use borrow.Author.Needs.{needs}
 use Rattle.slopes.specs.Slopes.{derivativeAt}
 use Rattle.sums.proofs.derived.of_found.Statement.{statement}
@@ -27,7 +28,7 @@ returns c =
       c .before .slopes-at .ensures,
       c .before .before .before .f .given .1,
       c .before .before .before .before .before .pre,
-    )
+    ) refl
 
 returns-2 : tie.Need-returns-2
 returns-2 c = search needs
