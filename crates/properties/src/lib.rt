@@ -46,6 +46,14 @@ pub struct Response {
     pub kappa: f64,
 }
 
+// How the pressure answers to heat and volume: the relative pressure coefficient α in 1/K and the
+// isothermal stress coefficient β in kg/m³, with the isochoric heat capacity cv in kJ/(kg K).
+pub struct PressureResponse {
+    pub alpha: f64,
+    pub beta: f64,
+    pub cv: f64,
+}
+
 // A value that an answer may lack.
 pub enum Value {
     Is(f64),
