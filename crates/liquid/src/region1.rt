@@ -160,7 +160,7 @@ impl Region1 {
     fn slope(x: Point) -> f64
         ensures { λ r. ⌜ r ≡ sum1 x 0 1 ⌝ }
     {
-        terms::slope(&N, &I, &J, Self::PI_SHIFT - x.pi, x.tau - Self::TAU_SHIFT)
+        terms::slope_by_b(&N, &I, &J, Self::PI_SHIFT - x.pi, x.tau - Self::TAU_SHIFT)
     }
 
     fn both(x: Point) -> Six

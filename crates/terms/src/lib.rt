@@ -5,7 +5,8 @@ mod row;
 mod walk;
 
 pub use walk::six_sums;
-pub use walk::slope;
+pub use walk::slope_by_a;
+pub use walk::slope_by_b;
 pub use walk::sum;
 
 // A sum and its derivatives by A and B.

@@ -84,8 +84,16 @@ pub fn sum(n: &[f64], i: &[i8], j: &[i8], a: f64, b: f64) -> f64
     s.f
 }
 
+// Its derivative by A alone.
+pub fn slope_by_a(n: &[f64], i: &[i8], j: &[i8], a: f64, b: f64) -> f64
+    ensures { λ r. ⌜ r ≡ sumOf (rows (now (n .entry)) (now (i .entry)) (now (j .entry))) 1 0 a b ⌝ }
+{
+    let s = six_sums(n, i, j, a, b);
+    s.fa
+}
+
 // Its derivative by B alone.
-pub fn slope(n: &[f64], i: &[i8], j: &[i8], a: f64, b: f64) -> f64
+pub fn slope_by_b(n: &[f64], i: &[i8], j: &[i8], a: f64, b: f64) -> f64
     ensures { λ r. ⌜ r ≡ sumOf (rows (now (n .entry)) (now (i .entry)) (now (j .entry))) 0 1 a b ⌝ }
 {
     let s = six_sums(n, i, j, a, b);

@@ -207,7 +207,7 @@ impl Region2 {
     fn ideal_slope(x: Point) -> f64
         ensures { λ r. ⌜ r ≡ sumOf ideal2 0 1 (x .pi) (x .tau) ⌝ }
     {
-        terms::slope(&IDEAL_N, &IDEAL_I, &IDEAL_J, x.pi, x.tau)
+        terms::slope_by_b(&IDEAL_N, &IDEAL_I, &IDEAL_J, x.pi, x.tau)
     }
 
     fn ideal_both(x: Point) -> Six
@@ -232,7 +232,7 @@ impl Region2 {
     fn residual_slope(x: Point) -> f64
         ensures { λ r. ⌜ r ≡ sumOf residual2 0 1 (x .pi) (shifted2 (x .tau)) ⌝ }
     {
-        terms::slope(
+        terms::slope_by_b(
             &RESIDUAL_N,
             &RESIDUAL_I,
             &RESIDUAL_J,

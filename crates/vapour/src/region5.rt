@@ -75,7 +75,7 @@ impl Region5 {
     fn ideal_slope(x: Point) -> f64
         ensures { λ r. ⌜ r ≡ sumOf ideal5 0 1 (x .pi) (x .tau) ⌝ }
     {
-        terms::slope(&IDEAL_N, &IDEAL_I, &IDEAL_J, x.pi, x.tau)
+        terms::slope_by_b(&IDEAL_N, &IDEAL_I, &IDEAL_J, x.pi, x.tau)
     }
 
     fn ideal_both(x: Point) -> Six
@@ -94,7 +94,7 @@ impl Region5 {
     fn residual_slope(x: Point) -> f64
         ensures { λ r. ⌜ r ≡ sumOf residual5 0 1 (x .pi) (x .tau) ⌝ }
     {
-        terms::slope(&RESIDUAL_N, &RESIDUAL_I, &RESIDUAL_J, x.pi, x.tau)
+        terms::slope_by_b(&RESIDUAL_N, &RESIDUAL_I, &RESIDUAL_J, x.pi, x.tau)
     }
 
     fn residual_both(x: Point) -> Six

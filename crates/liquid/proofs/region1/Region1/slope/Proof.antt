@@ -11,7 +11,7 @@ use Rattle.liquid.proofs.region1.Region1.slope.Tie as tie
 
 returns : tie.Need-returns
 unfolding rows sum1 table1 printed round ofBits neg
-returns c = lent-sum table1 0 1 _ _ (c .slope .ensures) refl
+returns c = lent-sum table1 0 1 _ _ (c .slope-by-b .ensures) refl
 
 pub slope-spec : {M : Type 1} → statement M
 slope-spec = tie.close (tie.spec (λ c. search needs) (λ c. search needs) (λ c. search needs) (λ c κs. search needs) returns)

@@ -11,7 +11,7 @@ use Rattle.vapour.proofs.region5.Region5.ideal_slope.Tie as tie
 
 returns : tie.Need-returns
 unfolding rows ideal5 printed round ofBits neg
-returns c = lent-sum ideal5 0 1 _ _ (c .slope .ensures) refl
+returns c = lent-sum ideal5 0 1 _ _ (c .slope-by-b .ensures) refl
 
 pub ideal-slope-spec : {M : Type 1} → statement M
 ideal-slope-spec = tie.close (tie.spec (λ c. search needs) (λ c. search needs) (λ c. search needs) (λ c κs. search needs) returns)
