@@ -1,16 +1,17 @@
 -- Derivatives of a single-phase state, by 001: for properties z, x, y among p, T, v, u, h, s, g, f, numbered 1 to 8, (∂z/∂x) at constant y is
--- (z_p·y_T - z_T·y_p) / (x_p·y_T - x_T·y_p) for an equation in p and T, and the same with its own two variables for any other. p is taken in kPa, so that v·p
--- is in kJ/kg. Definitions only.
+-- (z_p·y_T - z_T·y_p) / (x_p·y_T - x_T·y_p) for an equation in p and T, and the same by v and T for one in v and T. p is taken in kPa, so that v·p is in kJ/kg.
+-- Definitions only.
 use Prim.Native.Nat.{ℕ, _-_}
 use mathlib.Core.Bool.{Bool, cond, not, _&&_, _||_}
 use mathlib.Core.List.{[], _∷_}
 use lib.Dec.{leb}
 use lib.ListN.{getD}
 use lib.Ieee.{Float, nan, neg, eq}
-use Rattle.arith.specs.F64.{f64, _⊖_, _⊗_, _⊘_}
+use Rattle.arith.specs.F64.{f64, _⊕_, _⊖_, _⊗_, _⊘_}
 use Rattle.arith.specs.Bits.{finite}
 use Rattle.properties.specs.declared.Unrooted.{Unrooted}
 use Rattle.properties.specs.declared.Response.{Response}
+use Rattle.properties.specs.declared.PressureResponse.{PressureResponse}
 use Rattle.slopes.specs.declared.Row.{Row}
 use Rattle.slopes.specs.declared.Slopes.{Slopes}
 use Rattle.slopes.specs.declared.ratios.Change.{Change}
@@ -51,6 +52,42 @@ byT P t a r =
 -- p in MPa becomes kPa
 unfoldable pub slopesPT : (p t : Float) → Unrooted → Response → Slopes
 slopesPT p t a r = let P = f64 1000 ⊗ p in record { first = byP P t a r; second = byT P t a r }
+
+-- ---- an equation in v and T: region 3
+
+-- The derivatives by v at constant T. P is the pressure in kPa that the equation gives. α = (∂p/∂T)_v / p, β = -(∂p/∂v)_T / p and cv are those of 001, section
+-- 3.2, which prints ρ where p belongs, in its table and in these two.
+abbrev pub byV : (P t : Float) → Unrooted → PressureResponse → Row
+byV P t a r =
+    record {
+      p = neg (P ⊗ r .beta);
+      t = f64 0;
+      v = f64 1;
+      u = P ⊗ (t ⊗ r .alpha ⊖ f64 1);
+      h = P ⊗ (t ⊗ r .alpha ⊖ a .v ⊗ r .beta);
+      s = P ⊗ r .alpha;
+      g = neg (P ⊗ a .v ⊗ r .beta);
+      f = neg P;
+    }
+
+-- the derivatives by T at constant v
+abbrev pub byTAtV : (P t : Float) → Unrooted → PressureResponse → Row
+byTAtV P t a r =
+    let Pvα = P ⊗ a .v ⊗ r .alpha in
+    record {
+      p = P ⊗ r .alpha;
+      t = f64 1;
+      v = f64 0;
+      u = r .cv;
+      h = r .cv ⊕ Pvα;
+      s = r .cv ⊘ t;
+      g = Pvα ⊖ a .s;
+      f = neg (a .s);
+    }
+
+-- p in MPa becomes kPa
+unfoldable pub slopesVT : (p t : Float) → Unrooted → PressureResponse → Slopes
+slopesVT p t a r = let P = f64 1000 ⊗ p in record { first = byV P t a r; second = byTAtV P t a r }
 
 -- ---- any equation
 

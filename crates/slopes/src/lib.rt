@@ -11,6 +11,7 @@ pub use answers::value;
 pub use numbers::all_known;
 pub use ratios::quotient;
 pub use tables::by_p_and_t;
+pub use tables::by_v_and_t;
 
 // How each property changes with one variable while the other is held constant.
 pub struct Row {
