@@ -4,9 +4,12 @@ use crate::backward::{
     p1_hs, p2_hs, subregion_hs, subregion_ph, subregion_ps, t1_ph, t1_ps, t2_ph, t2_ps,
 };
 use crate::basic::{saturation_temperature, Point, Properties, Region};
+use crate::helmholtz::DensePoint;
 use crate::refusals::{Refusal, NOT_FINITE, NO_REGION, UNKNOWN};
-use crate::regions::{from_pt, from_py, Place, Quantity, P_LOWEST_BACKWARD};
+use crate::regions::{from_pt, from_py, Equation, Place, Quantity, P_LOWEST_BACKWARD};
 
+/// Largest difference in p, MPa, of a verified state of region 3.
+const VERIFIED_P: f64 = 0.001;
 /// Largest difference in h, kJ/kg, of a verified state.
 const VERIFIED_H: f64 = 0.08;
 /// Largest difference in s, kJ/(kg K), of a verified state.
@@ -19,16 +22,17 @@ const CANDIDATE_S: f64 = 0.0005;
 /// A single-phase state.
 #[derive(Clone, Copy, Debug, PartialEq)]
 pub struct Single {
-    pub region: Region,
+    pub equation: Equation,
     pub p: f64,
     pub t: f64,
     pub properties: Properties,
 }
 
 impl Single {
-    /// The state at (p,T) by a region's basic equation.
+    /// The state at (p,T) by g(p,T) of region 1, 2 or 5.
     pub fn at(region: Region, p: f64, t: f64) -> Single {
-        Single { region, p, t, properties: Point::new(region, p, t).properties() }
+        let properties = Point::new(region, p, t).properties();
+        Single { equation: Equation::Gibbs(region), p, t, properties }
     }
 }
 
@@ -62,10 +66,22 @@ pub fn answer(kind: u64, first: f64, second: f64) -> Result<Answer, Refusal> {
     }
 }
 
-/// (p,T): nothing is asked back, so the state is verified.
+/// (p,T): in regions 1, 2 and 5 nothing is asked back, so the state is verified.
 fn from_pressure_and_temperature(p: f64, t: f64) -> Result<Answer, Refusal> {
-    let region = from_pt(p, t)?;
-    Ok(Answer::Single { state: Single::at(region, p, t), verified: true })
+    Ok(match from_pt(p, t)? {
+        Equation::Gibbs(region) => {
+            Answer::Single { state: Single::at(region, p, t), verified: true }
+        }
+        Equation::Helmholtz => dense(&DensePoint::found(p, t), p, t),
+    })
+}
+
+/// A state of region 3: p and T are those asked, and the mark tells whether the
+/// equation's pressure gives p back.
+fn dense(point: &DensePoint, p: f64, t: f64) -> Answer {
+    let properties = point.properties();
+    let state = Single { equation: Equation::Helmholtz, p, t, properties };
+    Answer::Single { state, verified: within(point.pressure(), p, VERIFIED_P) }
 }
 
 /// (p,h) or (p,s).
@@ -149,7 +165,7 @@ fn from_enthalpy_and_entropy(h: f64, s: f64) -> Result<Answer, Refusal> {
 /// region, and h and s come back within 0.2 and 0.0005.
 fn passing(region: Region, h: f64, s: f64) -> Option<Single> {
     let (p, t) = candidate(region, h, s);
-    if p >= P_LOWEST_BACKWARD && from_pt(p, t) == Ok(region) {
+    if p >= P_LOWEST_BACKWARD && from_pt(p, t) == Ok(Equation::Gibbs(region)) {
         let state = Single::at(region, p, t);
         let back = &state.properties;
         let passes = within(back.h, h, CANDIDATE_H) && within(back.s, s, CANDIDATE_S);
@@ -173,6 +189,7 @@ fn candidate(region: Region, h: f64, s: f64) -> (f64, f64) {
 #[cfg(test)]
 mod tests {
     use super::*;
+    use crate::basic::{b23_pressure, saturation_pressure};
     use crate::refusals::{OUT_OF_RANGE, REGION_3};
 
     fn single(kind: u64, first: f64, second: f64) -> (Single, bool) {
@@ -194,7 +211,7 @@ mod tests {
             let Properties { h, s, .. } = Point::new(region, p, t).properties();
             for (kind, first, second) in [(2, p, h), (3, p, s), (4, h, s)] {
                 let (state, _) = single(kind, first, second);
-                assert_eq!(state.region, region);
+                assert_eq!(state.equation, Equation::Gibbs(region));
                 assert!((state.t - t).abs() < 0.05 && (state.p / p - 1.0).abs() < 0.01);
             }
         }
@@ -209,6 +226,64 @@ mod tests {
         assert_eq!(answer(4, 2000.0, 5.0), Err(NO_REGION));
         assert_eq!(answer(4, 1e300, 1e300), Err(NO_REGION));
         assert_eq!(answer(5, f64::NAN, 1.0), Err(UNKNOWN));
+    }
+
+    #[test]
+    fn a_state_of_region_3_has_what_was_asked_and_its_density() {
+        for (p, t) in [(25.0, 650.0), (18.0, 625.0), (17.5, 630.0), (100.0, 640.0)] {
+            let (state, verified) = single(1, p, t);
+            let point = DensePoint::found(p, t);
+            assert_eq!((state.equation, verified), (Equation::Helmholtz, true));
+            assert_eq!((state.p, state.t), (p, t));
+            assert_eq!(state.properties, point.properties());
+            assert!((point.pressure() - p).abs() < 1e-9);
+        }
+    }
+
+    #[test]
+    fn region_3_begins_behind_its_ties() {
+        let of = |p, t| single(1, p, t).0;
+        for t in [624.0, 630.0, 640.0, 647.0] {
+            let ps = saturation_pressure(t);
+            assert!(1.0 / of(ps, t).properties.v > 322.0);
+            assert!(1.0 / of(ps.next_down(), t).properties.v < 322.0);
+        }
+        for t in [630.0, 700.0, 850.0] {
+            let b23 = b23_pressure(t);
+            assert_eq!(of(b23, t).equation, Equation::Gibbs(Region::Two));
+            assert_eq!(of(b23.next_up(), t).equation, Equation::Helmholtz);
+        }
+        for p in [17.0, 50.0, 100.0] {
+            assert_eq!(of(p, 623.15).equation, Equation::Gibbs(Region::One));
+            assert_eq!(of(p, 623.15_f64.next_up()).equation, Equation::Helmholtz);
+        }
+        assert_eq!(of(100.0, 863.15).equation, Equation::Gibbs(Region::Two));
+        assert_eq!(of(100.0, 863.1499).equation, Equation::Helmholtz);
+    }
+
+    #[test]
+    fn region_3_is_marked_by_the_pressure_at_its_density() {
+        let point = DensePoint::new(500.0, 650.0);
+        let own = point.pressure();
+        let mark = |p: f64| match dense(&point, p, 650.0) {
+            Answer::Single { verified, .. } => verified,
+            wet => panic!("{wet:?}"),
+        };
+        assert!(mark(own) && mark(own + 0.00099) && mark(own - 0.00099));
+        assert!(!mark(own + 0.00101) && !mark(own - 0.00101) && !mark(f64::NAN));
+        let (p, t) = (saturation_pressure(647.09599) - 1e-10, 647.09599);
+        let (state, verified) = single(1, p, t);
+        assert!(verified && state.properties.v == 1.0 / 322.0 && state.properties.cp < 0.0);
+    }
+
+    #[test]
+    fn backward_queries_do_not_reach_region_3() {
+        for (p, t) in [(25.0, 650.0), (18.0, 630.0), (50.0, 700.0), (100.0, 640.0)] {
+            let Properties { h, s, .. } = single(1, p, t).0.properties;
+            assert_eq!(answer(2, p, h), Err(REGION_3));
+            assert_eq!(answer(3, p, s), Err(REGION_3));
+            assert_eq!(answer(4, h, s), Err(NO_REGION));
+        }
     }
 
     #[test]

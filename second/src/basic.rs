@@ -1,5 +1,5 @@
-//! The basic equations of 002: regions 1, 2 and 5, the saturation line and the
-//! boundaries B23, 2bc and 2ab. Units: p in MPa, T in K, v in m³/kg, u and h in
+//! The basic equations of 002 but that of region 3: regions 1, 2 and 5, the saturation
+//! line and the boundaries B23, 2bc and 2ab. Units: p in MPa, T in K, v in m³/kg, u and h in
 //! kJ/kg, s and cp in kJ/(kg K), w in m/s. The association of each formula is fixed;
 //! parentheses below are part of it.
 
@@ -8,7 +8,7 @@ use crate::sums::derivative;
 use crate::tables::{Term, A1, A11, A13, A14, A2, A20, A4, A5, HS5};
 
 /// The specific gas constant R, Eq. (1), in kJ/(kg K).
-const R: f64 = 0.461526;
+pub const R: f64 = 0.461526;
 
 /// A region with a basic equation g(p,T).
 #[derive(Clone, Copy, Debug, PartialEq, Eq)]

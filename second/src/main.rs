@@ -16,6 +16,7 @@ mod backward;
 mod basic;
 mod derivatives;
 mod desk;
+mod helmholtz;
 mod inputs;
 mod outputs;
 mod refusals;

@@ -12,7 +12,7 @@ pub const PRESSURE: Refusal = Refusal(2);
 pub const TEMPERATURE: Refusal = Refusal(3);
 /// T above 1073.15 and p above 10.
 pub const HOT_AND_HIGH: Refusal = Refusal(4);
-/// Region 3.
+/// Region 3, from (p,h) or (p,s).
 pub const REGION_3: Refusal = Refusal(5);
 /// h or s out of range at p.
 pub const OUT_OF_RANGE: Refusal = Refusal(6);

@@ -45,6 +45,25 @@ impl Quantity {
     }
 }
 
+/// The basic equation of a single phase.
+#[derive(Clone, Copy, Debug, PartialEq, Eq)]
+pub enum Equation {
+    /// g(p,T) of region 1, 2 or 5.
+    Gibbs(Region),
+    /// f(ρ,T) of region 3.
+    Helmholtz,
+}
+
+impl Equation {
+    /// The paper's number of the region.
+    pub fn region_number(self) -> u64 {
+        match self {
+            Equation::Gibbs(region) => region.number(),
+            Equation::Helmholtz => 3,
+        }
+    }
+}
+
 /// Where a (p,h) or (p,s) query lies.
 #[derive(Clone, Copy, Debug, PartialEq, Eq)]
 pub enum Place {
@@ -58,8 +77,8 @@ pub fn highest_saturation_pressure() -> f64 {
     saturation_pressure(T_13)
 }
 
-/// The region of (p,T).
-pub fn from_pt(p: f64, t: f64) -> Result<Region, Refusal> {
+/// The equation of the region of (p,T).
+pub fn from_pt(p: f64, t: f64) -> Result<Equation, Refusal> {
     if !(p.is_finite() && t.is_finite()) {
         Err(NOT_FINITE)
     } else if !(P_LOWEST..=P_HIGHEST).contains(&p) {
@@ -70,21 +89,22 @@ pub fn from_pt(p: f64, t: f64) -> Result<Region, Refusal> {
         if p > P_REGION_5 {
             Err(HOT_AND_HIGH)
         } else {
-            Ok(Region::Five)
+            Ok(Equation::Gibbs(Region::Five))
         }
     } else {
-        below_region_5(p, t)
+        Ok(below_region_5(p, t))
     }
 }
 
-/// The region of an in-range (p,T) with T up to 1073.15.
-fn below_region_5(p: f64, t: f64) -> Result<Region, Refusal> {
+/// The equation of the region of an in-range (p,T) with T up to 1073.15.
+fn below_region_5(p: f64, t: f64) -> Equation {
     if t <= T_13 {
-        Ok(if p >= saturation_pressure(t) { Region::One } else { Region::Two })
+        let liquid = p >= saturation_pressure(t);
+        Equation::Gibbs(if liquid { Region::One } else { Region::Two })
     } else if t > T_B23 || p <= b23_pressure(t) {
-        Ok(Region::Two)
+        Equation::Gibbs(Region::Two)
     } else {
-        Err(REGION_3)
+        Equation::Helmholtz
     }
 }
 
@@ -139,25 +159,28 @@ mod tests {
         assert_eq!(from_pt(f64::NAN, 300.0), Err(NOT_FINITE));
         assert_eq!(from_pt(0.0, 300.0), Err(PRESSURE));
         assert_eq!(from_pt(100.0, 273.14), Err(TEMPERATURE));
-        assert_eq!(from_pt(10.0, 1073.15), Ok(Region::Two));
-        assert_eq!(from_pt(10.0, 1500.0), Ok(Region::Five));
+        assert_eq!(from_pt(10.0, 1073.15), Ok(Equation::Gibbs(Region::Two)));
+        assert_eq!(from_pt(10.0, 1500.0), Ok(Equation::Gibbs(Region::Five)));
         assert_eq!(from_pt(10.5, 1500.0), Err(HOT_AND_HIGH));
         assert_eq!(from_pt(100.5, 200.0), Err(PRESSURE));
-        assert_eq!(from_pt(100.0, 900.0), Ok(Region::Two));
+        assert_eq!(from_pt(100.0, 900.0), Ok(Equation::Gibbs(Region::Two)));
     }
 
     #[test]
     fn ties_and_ends_of_pt() {
         assert_eq!(from_pt(50.0, 2300.0), Err(TEMPERATURE));
         assert_eq!(from_pt(-0.0, 300.0), Err(PRESSURE));
-        assert_eq!(from_pt(100.0, 1073.15), Ok(Region::Two));
-        assert_eq!(from_pt(saturation_pressure(500.0), 500.0), Ok(Region::One));
-        assert_eq!(from_pt(saturation_pressure(500.0).next_down(), 500.0), Ok(Region::Two));
-        assert_eq!(from_pt(b23_pressure(700.0), 700.0), Ok(Region::Two));
-        assert_eq!(from_pt(b23_pressure(700.0).next_up(), 700.0), Err(REGION_3));
-        assert_eq!(from_pt(50.0, T_13), Ok(Region::One));
-        assert_eq!(from_pt(50.0, T_13.next_up()), Err(REGION_3));
-        assert_eq!(from_pt(P_LOWEST, T_HIGHEST), Ok(Region::Five));
+        assert_eq!(from_pt(100.0, 1073.15), Ok(Equation::Gibbs(Region::Two)));
+        assert_eq!(from_pt(saturation_pressure(500.0), 500.0), Ok(Equation::Gibbs(Region::One)));
+        assert_eq!(
+            from_pt(saturation_pressure(500.0).next_down(), 500.0),
+            Ok(Equation::Gibbs(Region::Two))
+        );
+        assert_eq!(from_pt(b23_pressure(700.0), 700.0), Ok(Equation::Gibbs(Region::Two)));
+        assert_eq!(from_pt(b23_pressure(700.0).next_up(), 700.0), Ok(Equation::Helmholtz));
+        assert_eq!(from_pt(50.0, T_13), Ok(Equation::Gibbs(Region::One)));
+        assert_eq!(from_pt(50.0, T_13.next_up()), Ok(Equation::Helmholtz));
+        assert_eq!(from_pt(P_LOWEST, T_HIGHEST), Ok(Equation::Gibbs(Region::Five)));
     }
 
     #[test]

@@ -417,7 +417,7 @@ mod tests {
     fn bits(collected: &Collected) -> Vec<u64> {
         let (state, of) = (&collected.state, &collected.state.properties);
         let values = [state.p, state.t, of.v, of.u, of.h, of.s, of.cp, of.w].map(f64::to_bits);
-        [&[state.region.number(), collected.verified.into()][..], &values].concat()
+        [&[state.equation.region_number(), collected.verified.into()][..], &values].concat()
     }
 
     fn records_of(run: &[u8]) -> Vec<Record> {

@@ -195,7 +195,7 @@ fn changing(random: &mut Random) -> Query {
 /// The refusal, or region and mark.
 fn outcome((kind, first, second): Query) -> (u8, u64, bool) {
     match answer(kind, first, second) {
-        Ok(Answer::Single { state, verified }) => (0, state.region.number(), verified),
+        Ok(Answer::Single { state, verified }) => (0, state.equation.region_number(), verified),
         Ok(Answer::Wet { verified, .. }) => (0, 4, verified),
         Err(refusal) => (refusal.0, 0, false),
     }
@@ -369,7 +369,7 @@ mod tests {
 
     fn every_outcome(outcomes: &BTreeSet<(u64, String)>) {
         let expected = [
-            (1, "region 1, region 2, region 5, refused 1, refused 2, refused 3, refused 4, refused 5"),
+            (1, "region 1, region 2, region 3, region 5, refused 1, refused 2, refused 3, refused 4"),
             (2, "region 1, region 2, region 4, refused 1, refused 2, refused 5, refused 6"),
             (3, "region 1, region 2, region 4, refused 1, refused 2, refused 5, refused 6"),
             (4, "region 1, region 2, refused 1, refused 7"),

@@ -63,7 +63,7 @@ impl Run {
 
     fn collect(&mut self, caller: u64, ticket: u64) {
         let collected = self.desk.collect(caller, ticket);
-        self.line("collect", collected.map(|collected| collected.state.region.number()));
+        self.line("collect", collected.map(|collected| collected.state.equation.region_number()));
     }
 
     fn withdraw(&mut self, caller: u64, ticket: u64) {

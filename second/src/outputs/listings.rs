@@ -69,7 +69,7 @@ fn listing(input: &[u8], text: impl Fn(&Sheet) -> Result<String, Refusal>) -> St
 /// The refusal, 0 if none, and the region, 0 if refused; a wet state's is 4.
 fn outcome(answer: &Result<Answer, Refusal>) -> (u8, u64) {
     match answer {
-        Ok(Answer::Single { state, .. }) => (0, state.region.number()),
+        Ok(Answer::Single { state, .. }) => (0, state.equation.region_number()),
         Ok(Answer::Wet { .. }) => (0, 4),
         Err(Refusal(number)) => (*number, 0),
     }

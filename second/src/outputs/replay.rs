@@ -101,7 +101,7 @@ fn collected(collected: Result<Collected, Refusal>) -> String {
         Ok(Collected { state, verified }) => {
             let of = &state.properties;
             let values = [state.p, state.t, of.v, of.u, of.h, of.s, of.cp, of.w].map(hex);
-            let (region, mark) = (state.region.number(), u8::from(verified));
+            let (region, mark) = (state.equation.region_number(), u8::from(verified));
             format!("collect 0 {region} {mark} {}", values.join(" "))
         }
         Err(Refusal(number)) => format!("collect {number}{}", " -".repeat(10)),
