@@ -7,13 +7,14 @@
 //!
 //! TABLE is the document, a hyphen and its table (002-A3, 003-9); the value of h2ab
 //! stands beside 003's Table 5. ARGUMENTS are the printed decimals, a comma between
-//! two and no space: (p,T), (p,h), (p,s), (h,s), (T), (p), (h) or (s). Both numbers
+//! two and no space: (p,T), (ρ,T), (p,h), (p,s), (h,s), (T), (p), (h) or (s). Both numbers
 //! are written 0.DIGITSEk, the value being 0.DIGITS · 10ᵏ with a first digit that is
 //! not 0, DIGITS as many as the paper prints (9 in 002, 10 in 003), and k in decimal
 //! with `-` before it if negative and no sign otherwise; no value is negative.
 //! COMPUTED is the exact binary value rounded to that many digits, ties to even.
 //! Tables come in the order of the papers, points in the order of a table's columns
-//! or rows, a point's properties in the order v, h, u, s, cp, w. The last line is
+//! or rows, a point's properties in the order v, h, u, s, cp, w; in 002-A10, whose points
+//! are (ρ,T), p stands in the place of v. The last line is
 //! `M of N check values agree`: M lines have PRINTED and COMPUTED alike.
 
 use crate::backward::{p1_hs, p2_hs, t1_ph, t1_ps, t2_ph, t2_ps, Subregion};
@@ -21,6 +22,7 @@ use crate::basic::{
     b23_pressure, b23_temperature, b2ab_enthalpy, b2bc_pressure, saturation_pressure,
     saturation_temperature, Point, Region,
 };
+use crate::helmholtz::DensePoint;
 use Subregion::{A, B, C};
 
 /// One printed check value and what is computed for it.
@@ -66,6 +68,7 @@ fn checks() -> Vec<Check> {
     ];
     all.extend(property_table("002-A3", Region::One, &A3));
     all.extend(property_table("002-A6", Region::Two, &A6));
+    all.extend(dense_table("002-A10", &A10));
     all.extend(A12.map(|(t, ps)| of_one("002-A12", "ps", saturation_pressure, t, ps)));
     all.extend(property_table("002-A15", Region::Five, &A15));
     all.extend(A17.map(|row| of_two("002-A17", "T1", t1_ph, row)));
@@ -121,26 +124,54 @@ fn of_subregion(
     Check { table, call: format!("{letter}{name}({x},{y})"), printed, computed }
 }
 
-/// A point (p,T) and the six values printed for it.
+/// A point, (p,T) or in region 3 (ρ,T), and the six values printed for it.
 type Column = (&'static str, &'static str, [&'static str; 6]);
 
 fn property_table(table: &'static str, region: Region, columns: &[Column]) -> Vec<Check> {
-    let mut checks = Vec::new();
-    for &(p, t, printed) in columns {
-        let state = Point::new(region, number(p), number(t)).properties();
-        let values = [
+    let values = |p, t| {
+        let state = Point::new(region, p, t).properties();
+        [
             ("v", state.v),
             ("h", state.h),
             ("u", state.u),
             ("s", state.s),
             ("cp", state.cp),
             ("w", state.w),
-        ];
-        for ((name, computed), printed) in values.into_iter().zip(printed) {
-            checks.push(Check { table, call: format!("{name}({p},{t})"), printed, computed });
-        }
-    }
-    checks
+        ]
+    };
+    columns.iter().flat_map(|column| of_column(table, values, column)).collect()
+}
+
+fn dense_table(table: &'static str, columns: &[Column]) -> Vec<Check> {
+    let values = |density, t| {
+        let point = DensePoint::new(density, t);
+        let state = point.properties();
+        [
+            ("p", point.pressure()),
+            ("h", state.h),
+            ("u", state.u),
+            ("s", state.s),
+            ("cp", state.cp),
+            ("w", state.w),
+        ]
+    };
+    columns.iter().flat_map(|column| of_column(table, values, column)).collect()
+}
+
+fn of_column(
+    table: &'static str,
+    values: impl Fn(f64, f64) -> [(&'static str, f64); 6],
+    &(x, t, printed): &Column,
+) -> Vec<Check> {
+    let values = values(number(x), number(t)).into_iter().zip(printed);
+    values
+        .map(|((name, computed), printed)| Check {
+            table,
+            call: format!("{name}({x},{t})"),
+            printed,
+            computed,
+        })
+        .collect()
 }
 
 #[rustfmt::skip]
@@ -155,6 +186,13 @@ const A6: [Column; 3] = [
     ("0.0035", "300", ["0.394913866E2", "0.254991145E4", "0.241169160E4", "0.852238967E1", "0.191300162E1", "0.427920172E3"]),
     ("0.0035", "700", ["0.923015898E2", "0.333568375E4", "0.301262819E4", "0.101749996E2", "0.208141274E1", "0.644289068E3"]),
     ("30", "700", ["0.542946619E-2", "0.263149474E4", "0.246861076E4", "0.517540298E1", "0.103505092E2", "0.480386523E3"]),
+];
+
+#[rustfmt::skip]
+const A10: [Column; 3] = [
+    ("500", "650", ["0.255837018E2", "0.186343019E4", "0.181226279E4", "0.405427273E1", "0.138935717E2", "0.502005554E3"]),
+    ("200", "650", ["0.222930643E2", "0.237512401E4", "0.226365868E4", "0.485438792E1", "0.446579342E2", "0.383444594E3"]),
+    ("500", "750", ["0.783095639E2", "0.225868845E4", "0.210206932E4", "0.446971906E1", "0.634165359E1", "0.760696041E3"]),
 ];
 
 #[rustfmt::skip]
@@ -236,9 +274,10 @@ mod tests {
     }
 
     #[test]
-    fn basic_equations_meet_a3_a6_a15() {
+    fn basic_equations_meet_a3_a6_a10_a15() {
         agree("002-A3", 18);
         agree("002-A6", 18);
+        agree("002-A10", 18);
         agree("002-A15", 18);
     }
 
@@ -281,6 +320,6 @@ mod tests {
     fn the_listing_ends_with_the_count() {
         let text = listing();
         assert!(text.starts_with("002-A1 pB23(623.15) 0.165291643E2 0.165291643E2\n"));
-        assert!(text.ends_with("\n100 of 100 check values agree\n"));
+        assert!(text.ends_with("\n118 of 118 check values agree\n"));
     }
 }
