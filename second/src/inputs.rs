@@ -2,6 +2,7 @@
 //! manners give equal bytes.
 
 mod damage;
+mod dense;
 mod numbers;
 mod pairs;
 mod papers;
@@ -29,6 +30,8 @@ pub enum Manner {
     Oversized,
     /// Bytes without any meaning.
     Random,
+    /// Rows in region 3 and next to it, for `regions`, `answers` and `quotients`.
+    Dense,
     /// One of the two runs of a pair, in which one model does the same; for `replay` alone.
     Pair(Side),
 }
@@ -43,6 +46,7 @@ impl Manner {
             "cut" => Some(Manner::Cut),
             "oversized" => Some(Manner::Oversized),
             "random" => Some(Manner::Random),
+            "dense" if reads_queries(program) => Some(Manner::Dense),
             "one" if program == Program::Replay => Some(Manner::Pair(Side::One)),
             "other" if program == Program::Replay => Some(Manner::Pair(Side::Other)),
             _ => None,
@@ -65,8 +69,15 @@ pub fn of(program: Program, seed: u64, count: usize, manner: Manner) -> Vec<u8> 
         Manner::Cut => damage::cut(whole(program, seed, count), &mut random),
         Manner::Oversized => oversized(program, seed, count, &mut random),
         Manner::Random => damage::meaningless(most_bytes(program), &mut random),
+        Manner::Dense if program == Program::Quotients => papers::dense_triples(seed, count),
+        Manner::Dense => papers::dense_queries(seed, count),
         Manner::Pair(side) => pairs::records(seed, count, side),
     }
+}
+
+/// Whether the program answers the rows of a sheet.
+fn reads_queries(program: Program) -> bool {
+    matches!(program, Program::Regions | Program::Answers | Program::Quotients)
 }
 
 fn whole(program: Program, seed: u64, count: usize) -> Vec<u8> {
@@ -149,6 +160,15 @@ mod tests {
                 assert!(text.ends_with('\n') && !text.contains("\n\n"));
             }
         }
+    }
+
+    #[test]
+    fn dense_sheets_are_for_programs_that_answer_queries() {
+        let named = |program| Manner::named("dense", program);
+        assert_eq!(named(Program::Answers), Some(Manner::Dense));
+        assert!([Program::Replay, Program::Arithmetic, Program::Written]
+            .into_iter()
+            .all(|program| named(program).is_none()));
     }
 
     #[test]

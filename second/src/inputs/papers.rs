@@ -1,5 +1,6 @@
 //! Sheets of queries for `regions`, `answers` and `quotients`.
 
+use super::dense;
 use super::points::{any, ties, Query};
 use super::random::Random;
 use crate::sheets::{write, NOTE, ROWS, TRAILER};
@@ -9,7 +10,7 @@ use crate::sheets::{write, NOTE, ROWS, TRAILER};
 pub fn queries(seed: u64, count: usize) -> Vec<u8> {
     let mut random = Random::new(seed);
     let note = note(&mut random);
-    sheet(&note, &rows(seed, count, count / 4, &mut random))
+    sheet(&note, &rows(&ties(), any, seed, count, count / 4, &mut random))
 }
 
 /// A sheet of `count` queries, half of them ties, whose note holds 32 triples of property
@@ -17,7 +18,29 @@ pub fn queries(seed: u64, count: usize) -> Vec<u8> {
 pub fn triples(seed: u64, count: usize) -> Vec<u8> {
     let mut random = Random::new(seed);
     let note = numbered(seed.wrapping_mul(32), 32, &mut random);
-    sheet(&note, &rows(seed, count, count / 2, &mut random))
+    sheet(&note, &rows(&ties(), any, seed, count, count / 2, &mut random))
+}
+
+/// A sheet of `count` queries in region 3 and next to it, a quarter of them ties, without
+/// a note.
+pub fn dense_queries(seed: u64, count: usize) -> Vec<u8> {
+    let mut random = Random::new(seed);
+    sheet(&[], &rows(&dense::ties(), dense::any, seed, count, count / 4, &mut random))
+}
+
+/// A sheet of `count` queries in region 3 and next to it, half of them ties, whose note
+/// holds 8 triples of property numbers: those of one z and x. Sixty-four consecutive seeds
+/// go through all.
+pub fn dense_triples(seed: u64, count: usize) -> Vec<u8> {
+    let mut random = Random::new(seed);
+    let first = seed.wrapping_mul(8);
+    let note: Vec<u8> = (0..8).flat_map(|step| triple(first.wrapping_add(step))).collect();
+    sheet(&note, &rows(&dense::ties(), dense::any, seed, count, count / 2, &mut random))
+}
+
+/// The triple of property numbers of an index; there are 512.
+fn triple(index: u64) -> [u8; 3] {
+    [index / 64, index / 8, index].map(|digits| (digits % 8) as u8 + 1)
 }
 
 /// The `count` triples of property numbers from the one of index `first` on, a few of
@@ -25,7 +48,7 @@ pub fn triples(seed: u64, count: usize) -> Vec<u8> {
 fn numbered(first: u64, count: usize, random: &mut Random) -> Vec<u8> {
     let mut note = Vec::new();
     for index in (0..count as u64).map(|step| first.wrapping_add(step)) {
-        let mut triple = [index / 64, index / 8, index].map(|digits| (digits % 8) as u8 + 1);
+        let mut triple = triple(index);
         if random.below(12) == 0 {
             triple[random.below(3)] = random.pick(&[0, 9, 10, 128, 255]);
         }
@@ -44,7 +67,7 @@ pub fn small(seed: u64, count: usize, triples: bool) -> Vec<u8> {
         note.extend(random.bytes(more));
     }
     let count = random.below(count + 1);
-    sheet(&note, &rows(seed, count, count / 4, &mut random))
+    sheet(&note, &rows(&ties(), any, seed, count, count / 4, &mut random))
 }
 
 fn sheet(note: &[u8], rows: &[u8]) -> Vec<u8> {
@@ -64,14 +87,20 @@ fn note(random: &mut Random) -> Vec<u8> {
     random.bytes(length)
 }
 
-/// Rows of `count` queries, the first `tied` of them ties that go on where those of the
-/// seed before ended.
-fn rows(seed: u64, count: usize, tied: usize, random: &mut Random) -> Vec<u8> {
-    let ties = ties();
+/// Rows of `count` queries: first `tied` of the ties, going on where those of the seed
+/// before ended, then drawn ones.
+fn rows(
+    ties: &[Query],
+    drawn: fn(&mut Random) -> Query,
+    seed: u64,
+    count: usize,
+    tied: usize,
+    random: &mut Random,
+) -> Vec<u8> {
     let first = (seed % ties.len() as u64) as usize * tied;
     let mut bytes = Vec::new();
     for index in 0..count.min(ROWS) {
-        let query = if index < tied { ties[(first + index) % ties.len()] } else { any(random) };
+        let query = if index < tied { ties[(first + index) % ties.len()] } else { drawn(random) };
         append(&mut bytes, query);
     }
     bytes
@@ -98,6 +127,21 @@ mod tests {
             assert_eq!((sheet.note.len(), sheet.rows().count()), (96, 10));
         }
         assert!(read(&queries(0, 1000)).is_ok());
+    }
+
+    #[test]
+    fn dense_sheets_go_through_all_ties_and_triples() {
+        let (mut rows, mut triples) = (BTreeSet::new(), BTreeSet::new());
+        for seed in 1..=64 {
+            let sheet = dense_triples(seed, 16);
+            let sheet = read(&sheet).unwrap();
+            assert_eq!((sheet.note.len(), sheet.rows().count()), (24, 16));
+            rows.extend(sheet.rows().map(|(_, p, t)| (p.to_bits(), t.to_bits())));
+            triples.extend(sheet.note.chunks_exact(3).map(<[u8]>::to_vec));
+        }
+        assert!(dense::ties().iter().all(|(_, p, t)| rows.contains(&(p.to_bits(), t.to_bits()))));
+        assert_eq!(triples.len(), 512);
+        assert_eq!(read(&dense_queries(1, 1000)).unwrap().rows().count(), 1000);
     }
 
     #[test]

@@ -37,11 +37,11 @@ const STRANGE: [f64; 16] = [
     1e20,
 ];
 
-fn around(x: f64) -> [f64; 3] {
+pub fn around(x: f64) -> [f64; 3] {
     [x.next_down(), x, x.next_up()]
 }
 
-fn around_all(numbers: &[f64]) -> Vec<f64> {
+pub fn around_all(numbers: &[f64]) -> Vec<f64> {
     numbers.iter().copied().flat_map(around).collect()
 }
 
