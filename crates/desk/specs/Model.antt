@@ -8,7 +8,7 @@ use lib.Ieee.{Float}
 use Rattle.ledger.specs.declared.Row.{Row}
 use Rattle.ledger.specs.declared.Desk.{Desk}
 use Rattle.ledger.specs.Rows.{due, most, blank, row, counted, held, ofCaller, vacant, unfinished, tally, onward, lowest, put, between, sound}
-use Rattle.settle.specs.declared.Bracket.{Bracket}
+use Rattle.brackets.specs.declared.Bracket.{Bracket}
 use Rattle.settle.specs.declared.Judged.{Judged}
 use Rattle.settle.specs.declared.Judged.the-variants as Judged
 use Rattle.settle.specs.declared.Settled.{Settled}

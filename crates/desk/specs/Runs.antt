@@ -7,7 +7,8 @@ use Prim.Native.Nat.{ℕ, zero, suc, _+_, _%_, _≤_, _<_}
 use lib.Dec.{eqb, ltb}
 use lib.Ieee.{Float}
 use Rattle.equations.specs.declared.Phase.{Phase}
-use Rattle.settle.specs.declared.Bracket.{Bracket}
+use Rattle.brackets.specs.Brackets.{times}
+use Rattle.brackets.specs.declared.Bracket.{Bracket}
 use Rattle.settle.specs.declared.Judged.the-variants.{Within}
 use Rattle.settle.specs.declared.Settled.{Settled}
 use Rattle.settle.specs.Settle.{judgedOf}
@@ -129,11 +130,6 @@ CollectsGive c xs =
     → (s : Settled) × (answerTo before (collect c t) ≡ State s)
 
 -- ---- what a job is worth
-
--- f done n times over
-unfoldable pub times : {A : Type 0} → (A → A) → ℕ → A → A
-times f zero x = x
-times f (suc n) x = f (times f n x)
 
 abbrev pub asked : ℕ → Phase → Float → Float → Query
 asked kind phase p y = record { kind = kind; phase = phase; p = p; y = y }

@@ -3,18 +3,18 @@ use Prim.Native.Nat.{ℕ}
 use mathlib.Core.Bool.{Bool, cond, _||_}
 use lib.Dec.{eqb}
 use lib.Ieee.{Float, lt}
-use Rattle.arith.specs.F64.{f64, _⊕_, _⊘_}
+use Rattle.brackets.specs.Brackets.{middleOf, halfOf}
 use Rattle.equations.specs.Equations.{equationOf}
 use Rattle.states.specs.States.{propertyAt}
 use Rattle.states.specs.Marks.{markedOf}
 use Rattle.places.specs.Places.{t273, t1073, placePY, liquidEnd, vapourStart}
+use Rattle.brackets.specs.declared.Bracket.{Bracket}
 use Rattle.places.specs.declared.Side.{Side}
 use Rattle.places.specs.declared.Side.the-variants as Side
 use Rattle.states.specs.declared.Given.{Given}
 use Rattle.states.specs.declared.Given.the-variants.{Enthalpy, Entropy}
 use Rattle.equations.specs.declared.Phase.{Phase}
 use Rattle.equations.specs.declared.Phase.the-variants.{Liquid, Vapour}
-use Rattle.settle.specs.declared.Bracket.{Bracket}
 use Rattle.settle.specs.declared.Settled.{Settled}
 use Rattle.settle.specs.declared.Judged.{Judged}
 use Rattle.settle.specs.declared.Judged.the-variants.{Refused, Within}
@@ -26,9 +26,6 @@ postedOf kind = eqb kind 2 || eqb kind 3
 -- kind 2 gives h beside p, kind 3 s
 abbrev pub givenOf : ℕ → Given
 givenOf kind = cond (eqb kind 2) Enthalpy Entropy
-
-abbrev pub middleOf : Float → Float → Float
-middleOf lo hi = (lo ⊕ hi) ⊘ f64 2
 
 -- Region 1 from 273.15 to Ts(p) if p ≤ P, else to 623.15; region 2 from Ts(p) if p ≤ P, else TB23(p), to 1073.15.
 unfoldable pub bracketOf : Phase → Float → Bracket
@@ -46,9 +43,7 @@ judgedOf kind p y = cond (postedOf kind) (judgedBy p (placePY (givenOf kind) p y
 
 -- mid = (lo + hi) / 2; if y(p,mid) < y asked, lo = mid, else hi = mid
 unfoldable pub halvedOf : ℕ → Phase → Float → Float → Float → Float → Bracket
-halvedOf kind phase p y lo hi =
-    let mid = middleOf lo hi in
-    cond (lt (propertyAt (givenOf kind) phase p mid) y) (record { lo = mid; hi = hi }) (record { lo = lo; hi = mid })
+halvedOf kind phase p y lo hi = halfOf lo hi (lt (propertyAt (givenOf kind) phase p (middleOf lo hi)) y)
 
 -- T = (lo + hi) / 2, with its state and mark
 unfoldable pub settledOf : ℕ → Phase → Float → Float → Float → Float → Settled

@@ -3,6 +3,9 @@
 // middle of the bracket. What each call answers is said in specs/.
 mod naming;
 
+use brackets::Bracket;
+use brackets::half;
+use brackets::middle;
 use equations::Phase;
 use equations::equation_of;
 pub use naming::phase;
@@ -12,13 +15,7 @@ use places::place_py;
 use states::Given;
 use states::Single;
 ghost use mathlib.Core.Path.{_≡_};
-ghost use Rattle.settle.specs.Settle.{postedOf, givenOf, middleOf, bracketOf, judgedOf, halvedOf, settledOf};
-
-// A temperature bracket in K.
-pub struct Bracket {
-    pub lo: f64,
-    pub hi: f64,
-}
+ghost use Rattle.settle.specs.Settle.{postedOf, givenOf, bracketOf, judgedOf, halvedOf, settledOf};
 
 // What judging a post finds: the refusal's number, or the phase and the bracket to halve.
 pub enum Judged {
@@ -49,14 +46,7 @@ fn given(kind: u64) -> Given
     }
 }
 
-// The middle of a bracket.
-fn middle(lo: f64, hi: f64) -> f64
-    ensures { λ r. ⌜ r ≡ middleOf lo hi ⌝ }
-{
-    (lo + hi) / 2.0
-}
-
-// The bracket of a phase at p: liquid from 273.15 K, vapour up to 1073.15 K.
+// The temperature bracket in K of a phase at p: liquid from 273.15 K, vapour up to 1073.15 K.
 fn first_bracket(phase: Phase, p: f64) -> Bracket
     ensures { λ r. ⌜ r ≡ bracketOf phase p ⌝ }
 {
@@ -93,17 +83,13 @@ pub fn judge(kind: u64, p: f64, y: f64) -> Judged
     }
 }
 
-// One halving: the middle becomes the lower end where the property there is below the one asked, and
-// the upper end otherwise. Only that one property is worked.
+// One halving, by whether the property at the middle is below the one asked. Only that one property is
+// worked.
 pub fn halve(kind: u64, phase: Phase, p: f64, y: f64, lo: f64, hi: f64) -> Bracket
     ensures { λ r. ⌜ r ≡ halvedOf kind phase p y lo hi ⌝ }
 {
-    let mid = middle(lo, hi);
-    if states::property(given(kind), phase, p, mid) < y {
-        Bracket { lo: mid, hi }
-    } else {
-        Bracket { lo, hi: mid }
-    }
+    let below = states::property(given(kind), phase, p, middle(lo, hi)) < y;
+    half(lo, hi, below)
 }
 
 // The state at the middle of the bracket, with its mark.

@@ -6,7 +6,8 @@ use Prim.Native.Nat.{ℕ, suc, _+_, _%_, _*_, _≤_, _<_}
 use native.Mathlib.Omega.{arith}
 use native.Mathlib.Numerals.{add-one}
 use lib.ListN.{set}
-use Rattle.settle.specs.declared.Bracket.{Bracket}
+use Rattle.brackets.specs.Brackets.{times}
+use Rattle.brackets.specs.declared.Bracket.{Bracket}
 use Rattle.ledger.specs.declared.Row.{Row}
 use Rattle.ledger.specs.declared.Desk.{Desk}
 use Rattle.ledger.specs.Rows.{due, blank, row, counted, held, vacant, unfinished, lowest}
@@ -15,7 +16,7 @@ use Rattle.ledger.proofs.Tests.{held-is, held-empty, unfinished-is, is-unfinish
 use Rattle.desk.proofs.Halved.{held-halved}
 use Rattle.ledger.proofs.Changes.{row-each, counts-each, onward-true, onward-le}
 use Rattle.ledger.proofs.Good.{Good}
-use Rattle.desk.specs.Runs.{Call, step, isTurn, times}
+use Rattle.desk.specs.Runs.{Call, step, isTurn}
 use Rattle.desk.proofs.Runs.Round.{ahead, ahead-lt, ahead-back, ahead-next}
 use Rattle.desk.proofs.Runs.Posts.{Job}
 use Rattle.desk.proofs.Runs.Kept.{Effect, kept, idled, turned, seated, freed, effect, held-fresh, seat-free, counts-wide}

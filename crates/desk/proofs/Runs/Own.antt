@@ -10,7 +10,8 @@ use lib.Dec.{ltb}
 use lib.Ieee.{Float}
 use borrow.Author.Tests.{ltb-true, ltb-false, le-ltb}
 use Rattle.equations.specs.declared.Phase.{Phase}
-use Rattle.settle.specs.declared.Bracket.{Bracket}
+use Rattle.brackets.specs.Brackets.{times}
+use Rattle.brackets.specs.declared.Bracket.{Bracket}
 use Rattle.settle.specs.declared.Judged.the-variants.{Within}
 use Rattle.settle.specs.declared.Settled.{Settled}
 use Rattle.settle.specs.Settle.{judgedOf}
@@ -27,7 +28,7 @@ use Rattle.ledger.proofs.Tests.{held-is, is-held}
 use Rattle.ledger.proofs.Changes.{row-here, row-each}
 use Rattle.ledger.proofs.Good.{Good, good-sound}
 use Rattle.desk.proofs.Tickets.{Seat, open-seat, seat-open}
-use Rattle.desk.specs.Runs.{Call, post, peek, collect, step, afterFrom, after, answerTo, isTurn, turns, enough, OpenFor, times, asked, HalvedTo, JustPosted, SettledTo}
+use Rattle.desk.specs.Runs.{Call, post, peek, collect, step, afterFrom, after, answerTo, isTurn, turns, enough, OpenFor, asked, HalvedTo, JustPosted, SettledTo}
 use Rattle.desk.proofs.Runs.Round.{ahead-lt}
 use Rattle.desk.proofs.Runs.Posts.{Job, Ruling, against, given, Granted, rulingAt, seats, post-ruled, ruling-given}
 use Rattle.desk.proofs.Runs.Kept.{good-step, good-new, was-given, seat-free, counts-wide}

@@ -7,7 +7,7 @@ use native.Mathlib.Omega.{arith}
 use lib.Dec.{leb, ltb}
 use lib.Ieee.{Float}
 use borrow.Author.Tests.{ltb-true, leb-true}
-use Rattle.settle.specs.declared.Bracket.{Bracket}
+use Rattle.brackets.specs.declared.Bracket.{Bracket}
 use Rattle.settle.specs.declared.Judged.{Judged}
 use Rattle.settle.specs.declared.Judged.the-variants.{Refused, Within}
 use Rattle.settle.specs.Settle.{judgedOf}

@@ -11,7 +11,8 @@ use lib.Seq.{getD-set-same, getD-set-other}
 use lib.Dec.{eqb}
 use lib.Ieee.{Float}
 use borrow.Author.Tests.{le-ltb, lt-ltb, eqb-true, eqb-false}
-use Rattle.settle.specs.declared.Bracket.{Bracket}
+use Rattle.brackets.specs.Brackets.{times}
+use Rattle.brackets.specs.declared.Bracket.{Bracket}
 use Rattle.settle.specs.declared.Settled.{Settled}
 use Rattle.ledger.specs.declared.Row.{Row}
 use Rattle.ledger.specs.declared.Desk.{Desk}
@@ -27,7 +28,7 @@ use Rattle.desk.proofs.Halved.{of-halved, held-halved}
 use Rattle.ledger.proofs.Changes.{tally-same, tally-more, tally-less, lowest-true, none-lowest, some-lowest}
 use Rattle.ledger.proofs.Good.{Good, good-sound}
 use Rattle.desk.proofs.Tickets.{Seat, seat-open}
-use Rattle.desk.specs.Runs.{Call, post, turn, peek, collect, withdraw, step, afterFrom, after, Entry, historyFrom, history, keep, asks, ownCalls, ownPart, enough, turns, OpenFor, Patient, times}
+use Rattle.desk.specs.Runs.{Call, post, turn, peek, collect, withdraw, step, afterFrom, after, Entry, historyFrom, history, keep, asks, ownCalls, ownPart, enough, turns, OpenFor, Patient}
 use Rattle.desk.proofs.Runs.Posts.{Job, Ruling, against, given, ruling, rulingAt, Granted, seats, onRuling, post-ruled, ruling-given}
 use Rattle.desk.proofs.Runs.Kept.{Effect, kept, idled, turned, seated, freed, effect, good-step, good-new, tally-new, count-new, not-yet, held-fresh, seat-free, counts-wide}
 use Rattle.desk.proofs.Runs.Fair.{Tracked, aged, tracked-step}
