@@ -10,6 +10,7 @@ pub use names::region_of;
 pub enum Equation {
     Region1,
     Region2,
+    Region3,
     Region5,
 }
 

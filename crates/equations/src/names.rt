@@ -11,6 +11,7 @@ pub fn region_of(equation: Equation) -> u64
     match equation {
         Equation::Region1 => 1,
         Equation::Region2 => 2,
+        Equation::Region3 => 3,
         Equation::Region5 => 5,
     }
 }
@@ -23,11 +24,13 @@ pub fn is_of(equation: Equation, phase: Phase) -> bool
         Phase::Liquid => match equation {
             Equation::Region1 => true,
             Equation::Region2 => false,
+            Equation::Region3 => false,
             Equation::Region5 => false,
         },
         Phase::Vapour => match equation {
             Equation::Region1 => false,
             Equation::Region2 => true,
+            Equation::Region3 => false,
             Equation::Region5 => false,
         },
     }

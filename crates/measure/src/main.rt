@@ -2,6 +2,7 @@
 // names once for each byte behind it, with other arguments each time, so that no part of it can be
 // worked once for all turns, and says that it ended; `below zero` says that one of them was refused.
 
+use dense::Region3;
 use desk::Answer as Answered;
 use desk::Desk;
 use desk::Outcome;
@@ -60,6 +61,24 @@ fn some_quotient(kind: u64, a: f64, b: f64) -> Derivative {
     sums::quotient(kind, a, b, n.z, n.x, n.y)
 }
 
+// The derivative at a (p,T) state in region 3 by the three properties that x decides on.
+fn dense_quotient(x: f64, p: f64, t: f64) -> Derivative {
+    let n = three_of(x);
+    sums::quotient(1, p, t, n.z, n.x, n.y)
+}
+
+// The value of an operation in region 3 at x.
+fn dense(operation: u8, x: f64) -> f64 {
+    match operation {
+        b'3' => sum_of(Region3::state(400.0 + 10.0 * x, 650.0 + 5.0 * x)),
+        b'g' => dense::density(30.0 + x, 640.0 + 5.0 * x),
+        b'L' => answered(sums::from_pt(30.0 + x, 640.0 + 5.0 * x)),
+        b'M' => derived(sums::quotient(1, 30.0 + x, 640.0 + 5.0 * x, 3, 2, 1)),
+        b'N' => derived(dense_quotient(x, 30.0 + x, 640.0 + 5.0 * x)),
+        _ => x,
+    }
+}
+
 // The value of one query at x. Of a derivative, the three properties are part of what it is.
 fn queried(operation: u8, x: f64) -> f64 {
     match operation {
@@ -73,7 +92,7 @@ fn queried(operation: u8, x: f64) -> f64 {
         b'H' => derived(sums::quotient(2, x, 100.0 + 10.0 * x, 3, 2, 1)),
         b'I' => derived(some_quotient(1, x, 300.0 + 10.0 * x)),
         b'J' => derived(some_quotient(2, x, 100.0 + 10.0 * x)),
-        _ => x,
+        _ => dense(operation, x),
     }
 }
 

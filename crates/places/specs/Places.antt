@@ -11,7 +11,7 @@ use Rattle.places.specs.declared.Place.{Place}
 use Rattle.places.specs.declared.Place.the-variants.{Equation, Refused}
 use Rattle.places.specs.declared.Side.{Side}
 use Rattle.places.specs.declared.Side.the-variants as Side
-use Rattle.equations.specs.declared.Equation.the-variants.{Region1, Region2, Region5}
+use Rattle.equations.specs.declared.Equation.the-variants.{Region1, Region2, Region3, Region5}
 use Rattle.equations.specs.declared.Phase.the-variants.{Liquid, Vapour}
 use Rattle.states.specs.declared.Given.{Given}
 use Rattle.states.specs.States.{propertyAt}
@@ -59,11 +59,11 @@ pEnd = psOf t623
 
 -- ---- (p,T)
 
--- the region table, read downwards; region 3 is refused by 5
+-- the region table, read downwards
 unfoldable pub tableOf : Float → Float → Place
 tableOf p t =
     cond (le t t623) (cond (le (psOf t) p) (Equation Region1) (Equation Region2))
-    (cond (le t t863) (cond (le p (pB23 t)) (Equation Region2) (Refused 5))
+    (cond (le t t863) (cond (le p (pB23 t)) (Equation Region2) (Equation Region3))
     (cond (le t t1073) (Equation Region2)
     (cond (le p pMost5) (Equation Region5) (Refused 4))))
 
@@ -83,7 +83,7 @@ saturatedOf given p y =
     (cond (le y (propertyAt given Vapour p (tsOf p))) (Side.Wet (tsOf p))
     (Side.Phase Vapour))
 
--- p > P: between the liquid up to 623.15 K and the vapour from the boundary B23 on lies region 3
+-- p > P: between the liquid up to 623.15 K and the vapour from the boundary B23 on lies region 3, which is refused by 5
 unfoldable pub denseOf : Given → Float → Float → Side
 denseOf given p y =
     cond (le y (propertyAt given Liquid p t623)) (Side.Phase Liquid)

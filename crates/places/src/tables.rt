@@ -34,7 +34,7 @@ fn table(p: f64, t: f64) -> Place
         if p <= saturation::p_b23(t) {
             return Place::Equation(Equation::Region2);
         }
-        return Place::Refused(5);
+        return Place::Equation(Equation::Region3);
     }
     if t <= T1073 {
         return Place::Equation(Equation::Region2);

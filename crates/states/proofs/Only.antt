@@ -6,8 +6,8 @@ use Rattle.states.proofs.marks.carried.Kinds as carried-kinds
 use Rattle.states.proofs.marks.carried.Reads as carried
 use Rattle.states.proofs.marks.state_at.Kinds as state-at-kinds
 use Rattle.states.proofs.marks.state_at.Reads as state-at
-use Rattle.states.proofs.worked.slopes_at.Kinds as slopes-at-kinds
-use Rattle.states.proofs.worked.slopes_at.Reads as slopes-at
+use Rattle.states.proofs.worked.quotient_at.Kinds as quotient-at-kinds
+use Rattle.states.proofs.worked.quotient_at.Reads as quotient-at
 use Rattle.states.proofs.marks.both_near.Kinds as both-near-kinds
 use Rattle.states.proofs.marks.both_near.Reads as both-near
 use Rattle.states.proofs.marks.marked.Kinds as marked-kinds
@@ -40,5 +40,5 @@ carried-only κs a x y s t p q = p ∙ sym q
 pub state-at-only : Only 0 state-at-kinds.ps state-at-kinds.r state-at.Post
 state-at-only κs a x y s t p q = p ∙ sym q
 
-pub slopes-at-only : Only 0 slopes-at-kinds.ps slopes-at-kinds.r slopes-at.Post
-slopes-at-only κs a x y s t p q = p ∙ sym q
+pub quotient-at-only : Only 0 quotient-at-kinds.ps quotient-at-kinds.r quotient-at.Post
+quotient-at-only κs a x y s t p q = p ∙ sym q

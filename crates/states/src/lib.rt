@@ -16,7 +16,7 @@ pub use mixing::wet_at;
 use properties::State;
 pub use worked::Worked;
 pub use worked::property;
-pub use worked::slopes_at;
+pub use worked::quotient_at;
 
 // Which property a query gives beside p.
 pub enum Given {

@@ -3,23 +3,35 @@ use crate::Full;
 use crate::Given;
 use crate::Single;
 use crate::worked::given_of;
-use crate::worked::unrooted_at;
 use crate::worked::worked_at;
+use dense::Region3;
+use dense::density;
 use equations::Equation;
 use equations::Phase;
 use equations::equation_of;
+use liquid::Region1;
 use properties::Unrooted;
 use properties::rooted;
+use vapour::Region2;
+use vapour::Region5;
 ghost use mathlib.Core.Path.{_≡_};
-ghost use mathlib.Core.Bool.{true};
 ghost use Rattle.properties.specs.Properties.{rootedOf};
 ghost use Rattle.equations.specs.Equations.{equationOf};
-ghost use Rattle.states.specs.Marks.{near, verifiedOf, bothNear, singleOf, markedOf, markedBothOf, fullOf, handedOut};
+ghost use Rattle.equations.specs.declared.Equation.the-variants as equation;
+ghost use Rattle.states.specs.Marks.{near, verifiedOf, bothNear, metAt, metOf, singleOf, markedOf, markedBothOf, fullOf, handedOut};
 
-// The margins of a verified state: of h in kJ/kg, and of s in kJ/(kg K).
+// The margins of a verified state: of h in kJ/kg, of s in kJ/(kg K), and of p in MPa.
 const H_MARGIN: f64 = 0.08;
 
 const S_MARGIN: f64 = 0.0001;
+
+const P_MARGIN: f64 = 0.001;
+
+// The six properties with w squared, and whether the equation comes back to the p and T asked.
+pub struct Met {
+    pub unrooted: Unrooted,
+    pub met: bool,
+}
 
 // Whether x and y differ by at most the margin.
 fn near(margin: f64, x: f64, y: f64) -> bool
@@ -50,16 +62,52 @@ pub fn both_near(dh: f64, ds: f64, a: Unrooted, h: f64, s: f64) -> bool
     near(dh, a.h, h) && near(ds, a.s, s)
 }
 
-// The state of an equation at p and T: nothing was asked back, so it is verified.
-pub fn state_at(equation: Equation, p: f64, t: f64) -> Single
-    ensures { λ r. ⌜ r ≡ singleOf equation p t true ⌝ }
+// Region 3 is worked at the density found, and comes back where its pressure there is the one asked.
+fn met_3(p: f64, t: f64) -> Met
+    ensures { λ r. ⌜ r ≡ metOf equation.Region3 p t ⌝ }
 {
+    let found = density(p, t);
+    let f = Region3::phi(found, t);
+    let pressure = Region3::pressure_of(found, t, f);
+    Met {
+        unrooted: Region3::unrooted_of(found, t, f),
+        met: near(P_MARGIN, pressure, p),
+    }
+}
+
+// By an equation at p and T. Regions 1, 2 and 5 are worked at the p and T asked, so they come back to them.
+fn met_at(equation: Equation, p: f64, t: f64) -> Met
+    ensures { λ r. ⌜ r ≡ metOf equation p t ⌝ }
+{
+    match equation {
+        Equation::Region1 => Met {
+            unrooted: Region1::unrooted_of(p, t, Region1::gamma(p, t)),
+            met: true,
+        },
+        Equation::Region2 => Met {
+            unrooted: Region2::unrooted_of(p, t, Region2::gamma(p, t)),
+            met: true,
+        },
+        Equation::Region3 => met_3(p, t),
+        Equation::Region5 => Met {
+            unrooted: Region5::unrooted_of(p, t, Region5::gamma(p, t)),
+            met: true,
+        },
+    }
+}
+
+// The state of an equation at p and T, marked by whether it comes back to them.
+pub fn state_at(equation: Equation, p: f64, t: f64) -> Single
+    ensures { λ r. ⌜ r ≡ singleOf equation p t (metAt equation p t) ⌝ }
+{
+    let a = met_at(equation, p, t);
+    let unrooted = a.unrooted;
     Single {
         equation,
         p,
         t,
-        state: rooted(unrooted_at(equation, p, t)),
-        verified: true,
+        state: rooted(unrooted),
+        verified: a.met,
     }
 }
 
@@ -67,7 +115,8 @@ pub fn state_at(equation: Equation, p: f64, t: f64) -> Single
 pub fn marked(given: Given, equation: Equation, p: f64, y: f64, t: f64) -> Single
     ensures { λ r. ⌜ r ≡ markedOf given equation p y t ⌝ }
 {
-    let a = unrooted_at(equation, p, t);
+    let worked = met_at(equation, p, t);
+    let a = worked.unrooted;
     Single {
         equation,
         p,

@@ -1,12 +1,18 @@
 // The properties of a state and its slopes, by a basic equation at p and T (specs/States.antt).
 use crate::Given;
+use dense::Dense;
+use dense::Region3;
+use dense::density;
 use equations::Equation;
 use equations::Phase;
 use liquid::Liquid;
 use liquid::Region1;
 use properties::Unrooted;
+use slopes::Derivative;
 use slopes::Slopes;
 use slopes::by_p_and_t;
+use slopes::by_v_and_t;
+use slopes::quotient;
 use vapour::Region2;
 use vapour::Region5;
 use vapour::Vapour;
@@ -14,25 +20,16 @@ ghost use mathlib.Core.Path.{_≡_};
 ghost use Rattle.liquid.specs.Region1.{unrootedOf1, responseOf1};
 ghost use Rattle.vapour.specs.Region2.{unrootedOf2, responseOf2};
 ghost use Rattle.vapour.specs.Region5.{unrootedOf5, responseOf5};
-ghost use Rattle.slopes.specs.Slopes.{slopesPT};
+ghost use Rattle.dense.specs.Region3.{pressureOf3, unrootedOf3, responseOf3};
+ghost use Rattle.slopes.specs.Slopes.{slopesPT, slopesVT, derivativeAt};
 ghost use Rattle.equations.specs.Equations.{equationOf};
-ghost use Rattle.states.specs.States.{unrootedAt, slopesAt, workedAt, givenOf, propertyAt};
+ghost use Rattle.equations.specs.declared.Equation.the-variants as equation;
+ghost use Rattle.states.specs.States.{slopesAt, workedAt, givenOf, propertyAt};
 
 // The six properties with w squared, and the slopes, from one working of the sums.
 pub struct Worked {
     pub unrooted: Unrooted,
     pub slopes: Slopes,
-}
-
-// The six properties with w squared.
-pub(crate) fn unrooted_at(equation: Equation, p: f64, t: f64) -> Unrooted
-    ensures { λ r. ⌜ r ≡ unrootedAt equation p t ⌝ }
-{
-    match equation {
-        Equation::Region1 => Region1::unrooted_of(p, t, Region1::gamma(p, t)),
-        Equation::Region2 => Region2::unrooted_of(p, t, Region2::gamma(p, t)),
-        Equation::Region5 => Region5::unrooted_of(p, t, Region5::gamma(p, t)),
-    }
 }
 
 // The slopes of region 1 from what gamma gave for p and t.
@@ -59,6 +56,16 @@ fn slopes_2(p: f64, t: f64, g: Vapour) -> Slopes
     )
 }
 
+// The slopes of region 3 from what phi gave for density and t, with the equation's own pressure.
+fn slopes_3(density: f64, t: f64, f: Dense) -> Slopes
+    ensures { λ r. ⌜ r ≡ slopesVT (pressureOf3 density t f) t (unrootedOf3 density t f) (responseOf3 density t f) ⌝ }
+{
+    let p = Region3::pressure_of(density, t, f);
+    let a = Region3::unrooted_of(density, t, f);
+    let r = Region3::response_of(density, t, f);
+    by_v_and_t(p, t, a, r)
+}
+
 // The slopes of region 5 from what gamma gave for p and t.
 fn slopes_5(p: f64, t: f64, g: Vapour) -> Slopes
     ensures { λ r. ⌜ r ≡ slopesPT p t (unrootedOf5 p t g) (responseOf5 p t g) ⌝ }
@@ -71,14 +78,25 @@ fn slopes_5(p: f64, t: f64, g: Vapour) -> Slopes
     )
 }
 
-// The slopes by p and T: what a derivative takes, and nothing else of the state.
-pub fn slopes_at(equation: Equation, p: f64, t: f64) -> Slopes
-    ensures { λ r. ⌜ r ≡ slopesAt equation p t ⌝ }
+// The slopes of region 3 at p and T: those at the density found.
+fn dense_slopes(p: f64, t: f64) -> Slopes
+    ensures { λ r. ⌜ r ≡ slopesAt equation.Region3 p t ⌝ }
+{
+    let found = density(p, t);
+    slopes_3(found, t, Region3::phi(found, t))
+}
+
+// The derivative of property z by property x at constant y, numbered 1 to 8, by an equation at p and T. Of
+// the state only its slopes are worked. Each equation takes its own quotient: their rows have different
+// constants, and those of all in one place are more than the registers hold.
+pub fn quotient_at(equation: Equation, p: f64, t: f64, z: u64, x: u64, y: u64) -> Derivative
+    ensures { λ r. ⌜ r ≡ derivativeAt (slopesAt equation p t) z x y ⌝ }
 {
     match equation {
-        Equation::Region1 => slopes_1(p, t, Region1::gamma(p, t)),
-        Equation::Region2 => slopes_2(p, t, Region2::gamma(p, t)),
-        Equation::Region5 => slopes_5(p, t, Region5::gamma(p, t)),
+        Equation::Region1 => quotient(slopes_1(p, t, Region1::gamma(p, t)), z, x, y),
+        Equation::Region2 => quotient(slopes_2(p, t, Region2::gamma(p, t)), z, x, y),
+        Equation::Region3 => quotient(dense_slopes(p, t), z, x, y),
+        Equation::Region5 => quotient(slopes_5(p, t, Region5::gamma(p, t)), z, x, y),
     }
 }
 

@@ -2,10 +2,9 @@
 -- (h,s), which works a state to judge it, that state, with w squared yet and beside it the slopes that a derivative of it takes, so that nothing is summed twice.
 -- No promise of a public call cites this file. Definitions only.
 use Prim.Native.Nat.{ℕ}
-use mathlib.Core.Bool.{true}
 use lib.Ieee.{Float}
 use Rattle.states.specs.States.{slopesAt}
-use Rattle.states.specs.Marks.{singleOf, markedOf, fullOf, handedOut}
+use Rattle.states.specs.Marks.{metAt, singleOf, markedOf, fullOf, handedOut}
 use Rattle.states.specs.declared.Given.{Given}
 use Rattle.slopes.specs.Slopes.{ratioAt}
 use Rattle.slopes.specs.declared.Derivative.{Derivative}
@@ -30,9 +29,9 @@ quotientFound (Found.Single a) z x y = ratioAt (slopesAt (a .equation) (a .p) (a
 quotientFound (Found.Wet a) z x y = Derivative.Refused 8
 quotientFound (Found.Refused n) z x y = Derivative.Refused n
 
--- the state there, verified
+-- the state there, verified where its equation comes back to p and T
 abbrev pub verifiedIn : Found → Answer
-verifiedIn (Found.Single a) = Answer.Single (singleOf (a .equation) (a .p) (a .t) true)
+verifiedIn (Found.Single a) = Answer.Single (singleOf (a .equation) (a .p) (a .t) (metAt (a .equation) (a .p) (a .t)))
 verifiedIn (Found.Wet a) = Answer.Wet a
 verifiedIn (Found.Refused n) = Answer.Refused n
 

@@ -10,7 +10,7 @@ use Rattle.backward.specs.P1hs.{p1hs}
 use Rattle.backward.specs.Region2.{t2ph, t2ps, p2hs}
 use Rattle.equations.specs.Equations.{isOf, equationOf}
 use Rattle.states.specs.States.{stateAt, givenOf}
-use Rattle.states.specs.Marks.{bothNear, singleOf, markedOf, markedBothOf}
+use Rattle.states.specs.Marks.{bothNear, metAt, singleOf, markedOf, markedBothOf}
 use Rattle.states.specs.Mixing.{wetOf}
 use Rattle.states.specs.declared.Given.{Given}
 use Rattle.states.specs.declared.Given.the-variants.{Enthalpy, Entropy}
@@ -24,10 +24,10 @@ use Rattle.equations.specs.declared.Phase.the-variants.{Liquid, Vapour}
 use Rattle.reply.specs.declared.Answer.{Answer}
 use Rattle.reply.specs.declared.Answer.the-variants.{Single, Wet, Refused}
 
--- ---- (p,T): nothing was asked back, so the state is verified
+-- ---- (p,T): verified where the equation comes back to p, which only region 3 may miss
 
 abbrev pub placedPT : Float → Float → Place → Answer
-placedPT p t (Place.Equation equation) = Single (singleOf equation p t true)
+placedPT p t (Place.Equation equation) = Single (singleOf equation p t (metAt equation p t))
 placedPT p t (Place.Refused n) = Refused n
 
 unfoldable pub answerPT : Float → Float → Answer

@@ -4,7 +4,7 @@ use crate::outcomes::Outcome;
 use crate::outcomes::of_hs;
 use crate::outcomes::of_kind;
 use slopes::Derivative;
-use states::slopes_at;
+use states::quotient_at;
 ghost use mathlib.Core.Path.{_≡_};
 ghost use mathlib.Core.Bool.{true};
 ghost use Rattle.slopes.specs.Slopes.{allKnown};
@@ -31,7 +31,7 @@ fn of_found(f: Found, z: u64, x: u64, y: u64) -> Derivative
     match f {
         Found::Single(a) => {
             let equation = a.equation;
-            slopes::quotient(slopes_at(equation, a.p, a.t), z, x, y)
+            quotient_at(equation, a.p, a.t, z, x, y)
         }
         Found::Wet(_) => Derivative::Refused(8),
         Found::Refused(n) => Derivative::Refused(n),

@@ -1,4 +1,4 @@
--- The definitions give the numbers that 002 prints to check a program by: one point of each of its Tables A3, A6 and A15, and the pressure P = ps(623.15) at
+-- The definitions give the numbers that 002 prints to check a program by: one point of each of its Tables A3, A6, A10 and A15, and the pressure P = ps(623.15) at
 -- which regions 1, 2 and 3 meet. The f64 beside each property agrees with the printed value in all its nine digits. Shown by computing. Assumes nothing.
 use mathlib.Core.Path.{_≡_, refl}
 use mathlib.Core.Bool.{false}
@@ -15,6 +15,7 @@ use Rattle.liquid.specs.Region1.{table1, point1, sum1, gamma1, unrootedOf1, sta
 use Rattle.vapour.specs.Vapour.{vapourOf, vapourUnrooted}
 use Rattle.vapour.specs.Region2.{ideal2, residual2, point2, gamma2, unrootedOf2, stateOf2, state2}
 use Rattle.vapour.specs.Region5.{ideal5, residual5, point5, gamma5, unrootedOf5, stateOf5, state5}
+use Rattle.dense.specs.Region3.{table3, point3, phiOf3, phi3, pressureOf3, pressure3, unrootedAt3, unrootedOf3, stateOf3, state3}
 use Rattle.saturation.specs.Saturation.{psOf, tsOf}
 
 -- Table A3: p = 3 MPa, T = 300 K
@@ -40,6 +41,23 @@ pub region-2 : state2 (f64 30) (f64 700) ≡ record {
 }
 unfolding state2 stateOf2 rootedOf unrootedOf2 gamma2 point2 ideal2 residual2 vapourUnrooted vapourOf unrootedOf sixOf sumOf sumFrom plus term gone scaled powerOf raised logOf logUnits partsOf partsAt logSum series ln2 add sub mul div neg round ofInt ofBits printed rootOf rootUnits nearRoot floorRoot
 region-2 = refl
+
+-- Table A10: density 500 kg/m³, T = 650 K
+pub region-3 : state3 (f64 500) (f64 650) ≡ record {
+  v = ofBits binary64 0x3f60_624d_d2f1_a9fc;
+  u = ofBits binary64 0x409c_510d_17d3_1d08;
+  h = ofBits binary64 0x409d_1db8_83af_065a;
+  s = ofBits binary64 0x4010_3793_457b_0758;
+  cp = ofBits binary64 0x402b_c982_3c53_b763;
+  w = ofBits binary64 0x407f_6016_bf89_86b1;
+}
+unfolding state3 stateOf3 rootedOf unrootedOf3 unrootedAt3 phi3 phiOf3 point3 table3 sixOf sumOf sumFrom plus term gone scaled powerOf raised logOf logUnits partsOf partsAt logSum series ln2 add sub mul div neg round ofInt ofBits printed rootOf rootUnits nearRoot floorRoot
+region-3 = refl
+
+-- and the pressure there, in MPa
+pub pressure-3 : pressure3 (f64 500) (f64 650) ≡ ofBits binary64 0x4039_956d_7b7d_2a70
+unfolding pressureOf3 phi3 phiOf3 point3 table3 sixOf sumOf sumFrom plus term gone scaled powerOf raised add sub mul div neg round ofInt ofBits printed
+pressure-3 = refl
 
 -- Table A15: p = 8 MPa, T = 2000 K
 pub region-5 : state5 (f64 8) (f64 2000) ≡ record {

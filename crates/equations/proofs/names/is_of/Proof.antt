@@ -14,14 +14,20 @@ returns-3 : tie.Need-returns-3
 returns-3 c = rw (c .before .before .enum-told .given .1, c .enum-told4 .given .1) refl
 
 returns-4 : tie.Need-returns-4
-returns-4 c = rw (c .before .before .enum-told5 .given .1, c .enum-told6 .given .1) refl
+returns-4 c = rw (c .before .before .enum-told .given .1, c .enum-told5 .given .1) refl
 
 returns-5 : tie.Need-returns-5
-returns-5 c = rw (c .before .before .enum-told5 .given .1, c .enum-told7 .given .1) refl
+returns-5 c = rw (c .before .before .enum-told6 .given .1, c .enum-told7 .given .1) refl
 
 returns-6 : tie.Need-returns-6
-returns-6 c = rw (c .before .before .enum-told5 .given .1, c .enum-told8 .given .1) refl
+returns-6 c = rw (c .before .before .enum-told6 .given .1, c .enum-told8 .given .1) refl
+
+returns-7 : tie.Need-returns-7
+returns-7 c = rw (c .before .before .enum-told6 .given .1, c .enum-told9 .given .1) refl
+
+returns-8 : tie.Need-returns-8
+returns-8 c = rw (c .before .before .enum-told6 .given .1, c .enum-told10 .given .1) refl
 
 pub is-of-spec : {M : Type 1} → statement M
 is-of-spec =
-    tie.close (tie.spec (λ c. search needs) (λ c. search needs) (λ c. search needs) (λ c. search needs) (λ c. search needs) (λ c. search needs) (λ c. search needs) (λ c. search needs) returns returns-2 returns-3 returns-4 returns-5 returns-6)
+    tie.close (tie.spec (λ c. search needs) (λ c. search needs) (λ c. search needs) (λ c. search needs) (λ c. search needs) (λ c. search needs) (λ c. search needs) (λ c. search needs) (λ c. search needs) (λ c. search needs) returns returns-2 returns-3 returns-4 returns-5 returns-6 returns-7 returns-8)

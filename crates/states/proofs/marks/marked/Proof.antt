@@ -9,7 +9,7 @@ use Rattle.states.proofs.marks.marked.Tie as tie
 
 returns : tie.Need-returns
 unfolding markedOf stateAt rootedOf
-returns c = rw (c .verified .ensures, c .before .rooted .ensures, c .before .before .unrooted-at .ensures) refl
+returns c = rw (c .verified .ensures, c .before .rooted .ensures, c .before .before .before .met-at .ensures) refl
 
 pub marked-spec : {M : Type 1} → statement M
 marked-spec =

@@ -7,7 +7,7 @@ use Rattle.states.proofs.marks.state_at.Tie as tie
 
 returns : tie.Need-returns
 unfolding stateAt
-returns c = rw (c .rooted .ensures, c .before .unrooted-at .ensures) refl
+returns c = rw (c .rooted .ensures, c .before .before .met-at .ensures) refl
 
 pub state-at-spec : {M : Type 1} → statement M
 state-at-spec =

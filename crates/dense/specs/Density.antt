@@ -1,0 +1,23 @@
+-- The density at p and T in region 3: sixty halvings, by the pressure at the middle density. Definitions only.
+use mathlib.Core.Bool.{cond}
+use lib.Ieee.{Float, lt, le}
+use Rattle.arith.specs.F64.{f64}
+use Rattle.brackets.specs.Brackets.{middleOf, halfOf, times}
+use Rattle.brackets.specs.declared.Bracket.{Bracket}
+use Rattle.saturation.specs.Saturation.{psOf}
+use Rattle.dense.specs.Region3.{density*, T*, pressure3}
+
+-- 50 to 800 kg/m³ from the critical temperature on. Below it the critical density parts liquid, from ps(T) on, and vapour.
+unfoldable pub first3 : Float → Float → Bracket
+first3 p t =
+    cond (le T* t) (record { lo = f64 50; hi = f64 800 })
+    (cond (le (psOf t) p) (record { lo = density*; hi = f64 800 })
+    (record { lo = f64 50; hi = density* }))
+
+-- if p(mid,T) < p asked, lo = mid, else hi = mid
+unfoldable pub halved3 : Float → Float → Bracket → Bracket
+halved3 p t b = halfOf (b .lo) (b .hi) (lt (pressure3 (middleOf (b .lo) (b .hi)) t) p)
+
+-- the middle of the last bracket
+unfoldable pub density3 : Float → Float → Float
+density3 p t = let b = times (halved3 p t) 60 (first3 p t) in middleOf (b .lo) (b .hi)

@@ -1,0 +1,2 @@
+pub mod Region3
+pub mod Density

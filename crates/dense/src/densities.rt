@@ -1,0 +1,58 @@
+// The density at p and T in region 3, by halving (specs/Density.antt).
+use crate::Region3;
+use brackets::Bracket;
+use brackets::half;
+use brackets::middle;
+ghost use mathlib.Core.Path.{_≡_};
+ghost use Rattle.dense.specs.Density.{first3, halved3, density3};
+
+// The least and the greatest density in kg/m³ that are sought.
+const LEAST: f64 = 50.0;
+
+const MOST: f64 = 800.0;
+
+// The halvings of a bracket.
+const HALVINGS: u64 = 60;
+
+// Where the density lies: below the critical temperature on its side of the saturation line.
+fn first_bracket(p: f64, t: f64) -> Bracket
+    ensures { λ r. ⌜ r ≡ first3 p t ⌝ }
+{
+    if Region3::T <= t {
+        return Bracket {
+            lo: LEAST,
+            hi: MOST,
+        };
+    }
+    if saturation::ps(t) <= p {
+        return Bracket {
+            lo: Region3::D,
+            hi: MOST,
+        };
+    }
+    Bracket {
+        lo: LEAST,
+        hi: Region3::D,
+    }
+}
+
+// One halving: the middle becomes the lower end where the pressure there is below the one asked, and
+// the upper end otherwise.
+fn halved(p: f64, t: f64, b: Bracket) -> Bracket
+    ensures { λ r. ⌜ r ≡ halved3 p t b ⌝ }
+{
+    half(b.lo, b.hi, Region3::pressure(middle(b.lo, b.hi), t) < p)
+}
+
+// The density in kg/m³ at p in MPa and T in K: the middle of the last bracket.
+pub fn density(p: f64, t: f64) -> f64
+    ensures { λ r. ⌜ r ≡ density3 p t ⌝ }
+{
+    let mut b = first_bracket(p, t);
+    let mut k = 0u64;
+    while k < HALVINGS {
+        b = halved(p, t, b);
+        k += 1;
+    }
+    middle(b.lo, b.hi)
+}

@@ -1,0 +1,18 @@
+-- `states::marks::met_3` meets its contract: properties and mark are made of one density and one φ. Assumes nothing.
+use mathlib.Core.Path.{refl}
+use borrow.Author.Needs.{needs}
+use lib.Ieee.{round, ofBits}
+use Rattle.arith.specs.Printed.{printed}
+use Rattle.states.specs.States.{unrootedAt}
+use Rattle.states.proofs.marks.met_3.Statement.{statement}
+use Rattle.states.proofs.marks.met_3.Tie as tie
+
+returns : tie.Need-returns
+unfolding unrootedAt printed round ofBits
+returns c =
+    let pressure = c .before .before in
+    let phi = pressure .before in
+    rw (c .near .ensures, c .before .unrooted-of .ensures, pressure .pressure-of .ensures, phi .phi .ensures, phi .before .density .ensures) refl
+
+pub met-3-spec : {M : Type 1} → statement M
+met-3-spec = tie.close (tie.spec (λ c κs. search needs) (λ c κs. search needs) (λ c κs. search needs) (λ c κs. search needs) (λ c κs. search needs) returns)
