@@ -2,7 +2,7 @@
 use mathlib.Core.Path.{_≡_, refl}
 use mathlib.Core.Logic.{_≢_}
 use mathlib.Core.Bool.{Bool, true, false, _&&_}
-use Prim.Native.Nat.{ℕ, _≤_}
+use Prim.Native.Nat.{ℕ, suc, _%_, _≤_}
 use native.Mathlib.Omega.{arith}
 use lib.Dec.{leb}
 use borrow.Author.Tests.{leb-true}
@@ -26,6 +26,13 @@ ranges z x y k =
     let a = both (known z) (known x && known y) k in
     let b = both (known x) (known y) (a .1) in
     record { of-z = range z (a .0); of-x = range x (b .0); of-y = range y (b .1) }
+
+-- what n % 8 says of n
+pub named : (n k : ℕ) → (1 ≤ n) × (n ≤ 8) → n % 8 ≡ suc k → n ≡ suc k
+named n k r e = omega arith
+
+pub unlike : (n k : ℕ) → k % 8 ≡ k → n % 8 ≢ k → n ≢ k
+unlike n k own other same = other (rw same own)
 
 upper : (n : ℕ) → 1 ≤ n → n ≢ 1 → n ≢ 2 → n ≢ 3 → n ≢ 4 → 5 ≤ n
 upper n least a b c d = omega arith

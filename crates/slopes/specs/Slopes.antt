@@ -2,7 +2,7 @@
 -- (z_p·y_T - z_T·y_p) / (x_p·y_T - x_T·y_p) for an equation in p and T, and the same by v and T for one in v and T. p is taken in kPa, so that v·p is in kJ/kg.
 -- Definitions only.
 use Prim.Native.Nat.{ℕ, _-_}
-use mathlib.Core.Bool.{Bool, cond, not, _&&_, _||_}
+use mathlib.Core.Bool.{Bool, cond, not, _&&_}
 use mathlib.Core.List.{[], _∷_}
 use lib.Dec.{leb}
 use lib.ListN.{getD}
@@ -103,9 +103,12 @@ changeOf a n = record { first = slope (a .first) n; second = slope (a .second) n
 abbrev pub determinant : Slopes → ℕ → ℕ → Float
 determinant a z y = slope (a .first) z ⊗ slope (a .second) y ⊖ slope (a .second) z ⊗ slope (a .first) y
 
--- a denominator that is zero, of either sign, or not finite, is refused by 8
+-- a denominator is neither zero, of either sign, nor not finite; any other is refused by 8
+unfoldable pub dividesOf : Float → Bool
+dividesOf below = not (eq below (f64 0)) && finite below
+
 abbrev pub ratioOf : Float → Float → Derivative
-ratioOf above below = cond (eq below (f64 0) || not (finite below)) (Refused 8) (Value (above ⊘ below))
+ratioOf above below = cond (dividesOf below) (Value (above ⊘ below)) (Refused 8)
 
 unfoldable pub ratioAt : Slopes → ℕ → ℕ → ℕ → Derivative
 ratioAt a z x y = ratioOf (determinant a z y) (determinant a x y)

@@ -6,7 +6,7 @@ ghost use mathlib.Core.Path.{_≡_};
 ghost use mathlib.Core.Bool.{true};
 ghost use Prim.Native.Nat.{_≤_};
 ghost use Rattle.arith.specs.F64.{_⊖_, _⊗_};
-ghost use Rattle.slopes.specs.Slopes.{changeOf, ratioOf, ratioAt, allKnown, derivativeAt};
+ghost use Rattle.slopes.specs.Slopes.{changeOf, dividesOf, ratioAt, allKnown, derivativeAt};
 
 // How one property changes with the first variable, and with the second.
 pub struct Change {
@@ -14,14 +14,15 @@ pub struct Change {
     pub second: f64,
 }
 
-// Of property n: p, T, v, u, h, s, g, f are 1 to 8.
+// Of property n: p, T, v, u, h, s, g, f are 1 to 8. By n % 8 the compiler knows that there are eight cases
+// and tests for no other.
 fn change_of(a: Slopes, n: u64) -> Change
     requires { ⌜ (1 ≤ n) × (n ≤ 8) ⌝ }
     ensures { λ r. ⌜ r ≡ changeOf a n ⌝ }
 {
     let by = a.first;
     let other = a.second;
-    match n {
+    match n % 8 {
         1 => Change {
             first: by.p,
             second: other.p,
@@ -64,28 +65,29 @@ fn determinant(z: Change, y: Change) -> f64
     z.first * y.second - z.second * y.first
 }
 
-// A quotient, or 8 if its denominator is zero or not finite.
-fn ratio(above: f64, below: f64) -> Derivative
-    ensures { λ r. ⌜ r ≡ ratioOf above below ⌝ }
+// Whether a denominator is neither zero nor without end.
+fn divides(below: f64) -> bool
+    ensures { λ r. ⌜ r ≡ dividesOf below ⌝ }
 {
     if below == 0.0 {
-        return Derivative::Refused(8);
+        return false;
     }
-    if !arith::is_finite(below) {
-        return Derivative::Refused(8);
-    }
-    Derivative::Value(above / below)
+    arith::is_finite(below)
 }
 
-// The quotient at a state, from its slopes.
+// The quotient at a state, from its slopes; 8 if its denominator is zero or not finite. That is judged before the
+// numerator is worked.
 fn at(a: Slopes, z: u64, x: u64, y: u64) -> Derivative
     requires { ⌜ allKnown z x y ≡ true ⌝ }
     ensures { λ q. ⌜ q ≡ ratioAt a z x y ⌝ }
 {
     let held = change_of(a, y);
-    let above = determinant(change_of(a, z), held);
     let below = determinant(change_of(a, x), held);
-    ratio(above, below)
+    if divides(below) {
+        let above = determinant(change_of(a, z), held);
+        return Derivative::Value(above / below);
+    }
+    Derivative::Refused(8)
 }
 
 // The derivative of property z by property x at constant y, numbered 1 to 8, at a state, from its slopes.
