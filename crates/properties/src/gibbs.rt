@@ -1,5 +1,5 @@
 // Reduced variables, and the properties from the Gibbs free energy γ and its derivatives by them,
-// as every region works them: 002, Tables 2 and 4 (specs/Properties.antt).
+// as regions 1, 2 and 5 work them: 002, Tables 2 and 4 (specs/Properties.antt).
 use crate::Point;
 use crate::State;
 use crate::Unrooted;

@@ -53,7 +53,7 @@ pub(crate) fn shown(o: Outcome) -> Answer
     }
 }
 
-// The answer of a (p,T) query: nothing was asked back.
+// The answer of a (p,T) query, marked by whether its equation comes back to p and T.
 pub(crate) fn verified_in(f: Found) -> Answer
     ensures { λ r. ⌜ r ≡ verifiedIn f ⌝ }
 {

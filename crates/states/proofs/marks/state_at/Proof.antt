@@ -1,4 +1,4 @@
--- `states::marks::state_at` meets its contract: its properties are those of the equation, with the root of w². Assumes nothing.
+-- `states::marks::state_at` meets its contract: its properties and its mark are those of the equation, with the root of w². Assumes nothing.
 use mathlib.Core.Path.{refl}
 use borrow.Author.Needs.{needs}
 use Rattle.states.specs.States.{stateAt}
