@@ -23,8 +23,7 @@ fn of_outcome(o: Outcome, z: u64, x: u64, y: u64) -> Derivative
     }
 }
 
-// The quotient where a state was found. Region 3 has a call of its own: where one call gives the slopes of
-// all equations, a derivative there costs more than its state.
+// The quotient where a state was found.
 fn of_found(f: Found, z: u64, x: u64, y: u64) -> Derivative
     requires { ⌜ allKnown z x y ≡ true ⌝ }
     ensures { λ r. ⌜ r ≡ quotientFound f z x y ⌝ }
