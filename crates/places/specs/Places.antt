@@ -13,8 +13,8 @@ use Rattle.places.specs.declared.Side.{Side}
 use Rattle.places.specs.declared.Side.the-variants as Side
 use Rattle.equations.specs.declared.Equation.the-variants.{Region1, Region2, Region3, Region5}
 use Rattle.equations.specs.declared.Phase.the-variants.{Liquid, Vapour}
-use Rattle.states.specs.declared.Given.{Given}
-use Rattle.states.specs.States.{propertyAt}
+use Rattle.workings.specs.declared.Given.{Given}
+use Rattle.workings.specs.Workings.{propertyAt}
 
 -- an input that is NaN or infinite
 abbrev pub wild : Float → Float → Bool

@@ -15,8 +15,8 @@ use crate::ranges::outside;
 use crate::ranges::wild;
 use equations::Equation;
 use equations::Phase;
-use states::Given;
-use states::property;
+use workings::Given;
+use workings::property;
 ghost use mathlib.Core.Path.{_≡_};
 ghost use Rattle.places.specs.Places.{tableOf, placePT, saturatedOf, denseOf, rangedOf, placePY};
 

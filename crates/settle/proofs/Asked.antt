@@ -8,8 +8,8 @@ use lib.Dec.{eqb}
 use lib.Ieee.{Float}
 use borrow.Author.Tests.{eqb-true}
 use Rattle.states.specs.Marks.{markedOf}
-use Rattle.states.specs.declared.Given.{Given}
-use Rattle.states.specs.declared.Given.the-variants.{Enthalpy, Entropy}
+use Rattle.workings.specs.declared.Given.{Given}
+use Rattle.workings.specs.declared.Given.the-variants.{Enthalpy, Entropy}
 use Rattle.equations.specs.declared.Phase.the-variants.{Liquid, Vapour}
 use Rattle.places.specs.Places.{placePY}
 use Rattle.places.specs.declared.Side.{Side}

@@ -5,14 +5,14 @@ use lib.Dec.{eqb}
 use lib.Ieee.{Float, lt}
 use Rattle.brackets.specs.Brackets.{middleOf, halfOf}
 use Rattle.equations.specs.Equations.{equationOf}
-use Rattle.states.specs.States.{propertyAt}
+use Rattle.workings.specs.Workings.{propertyAt}
 use Rattle.states.specs.Marks.{markedOf}
 use Rattle.places.specs.Places.{t273, t1073, placePY, liquidEnd, vapourStart}
 use Rattle.brackets.specs.declared.Bracket.{Bracket}
 use Rattle.places.specs.declared.Side.{Side}
 use Rattle.places.specs.declared.Side.the-variants as Side
-use Rattle.states.specs.declared.Given.{Given}
-use Rattle.states.specs.declared.Given.the-variants.{Enthalpy, Entropy}
+use Rattle.workings.specs.declared.Given.{Given}
+use Rattle.workings.specs.declared.Given.the-variants.{Enthalpy, Entropy}
 use Rattle.equations.specs.declared.Phase.{Phase}
 use Rattle.equations.specs.declared.Phase.the-variants.{Liquid, Vapour}
 use Rattle.settle.specs.declared.Settled.{Settled}

@@ -12,8 +12,8 @@ pub use naming::phase;
 pub use naming::region;
 use places::Side;
 use places::place_py;
-use states::Given;
 use states::Single;
+use workings::Given;
 ghost use mathlib.Core.Path.{_≡_};
 ghost use Rattle.settle.specs.Settle.{postedOf, givenOf, bracketOf, judgedOf, halvedOf, settledOf};
 
@@ -88,7 +88,7 @@ pub fn judge(kind: u64, p: f64, y: f64) -> Judged
 pub fn halve(kind: u64, phase: Phase, p: f64, y: f64, lo: f64, hi: f64) -> Bracket
     ensures { λ r. ⌜ r ≡ halvedOf kind phase p y lo hi ⌝ }
 {
-    let below = states::property(given(kind), phase, p, middle(lo, hi)) < y;
+    let below = workings::property(given(kind), phase, p, middle(lo, hi)) < y;
     half(lo, hi, below)
 }
 

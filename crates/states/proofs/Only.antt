@@ -6,8 +6,6 @@ use Rattle.states.proofs.marks.carried.Kinds as carried-kinds
 use Rattle.states.proofs.marks.carried.Reads as carried
 use Rattle.states.proofs.marks.state_at.Kinds as state-at-kinds
 use Rattle.states.proofs.marks.state_at.Reads as state-at
-use Rattle.states.proofs.worked.quotient_at.Kinds as quotient-at-kinds
-use Rattle.states.proofs.worked.quotient_at.Reads as quotient-at
 use Rattle.states.proofs.marks.both_near.Kinds as both-near-kinds
 use Rattle.states.proofs.marks.both_near.Reads as both-near
 use Rattle.states.proofs.marks.marked.Kinds as marked-kinds
@@ -16,11 +14,6 @@ use Rattle.states.proofs.marks.handed_out.Kinds as handed-out-kinds
 use Rattle.states.proofs.marks.handed_out.Reads as handed-out
 use Rattle.states.proofs.mixing.wet_at.Kinds as wet-at-kinds
 use Rattle.states.proofs.mixing.wet_at.Reads as wet-at
-use Rattle.states.proofs.worked.property.Kinds as property-kinds
-use Rattle.states.proofs.worked.property.Reads as property
-
-pub property-only : Only 0 property-kinds.ps property-kinds.r property.Post
-property-only κs a x y s t p q = p ∙ sym q
 
 pub marked-only : Only 0 marked-kinds.ps marked-kinds.r marked.Post
 marked-only κs a x y s t p q = p ∙ sym q
@@ -39,6 +32,3 @@ carried-only κs a x y s t p q = p ∙ sym q
 
 pub state-at-only : Only 0 state-at-kinds.ps state-at-kinds.r state-at.Post
 state-at-only κs a x y s t p q = p ∙ sym q
-
-pub quotient-at-only : Only 0 quotient-at-kinds.ps quotient-at-kinds.r quotient-at.Post
-quotient-at-only κs a x y s t p q = p ∙ sym q

@@ -7,8 +7,8 @@ use Rattle.dense.specs.Region3.{pressure3}
 use Rattle.dense.specs.Density.{density3}
 use Rattle.properties.specs.declared.State.{State}
 use Rattle.properties.specs.Properties.{rootedOf}
-use Rattle.states.specs.States.{unrootedAt, stateAt, workedAt, givenOf}
-use Rattle.states.specs.declared.Given.{Given}
+use Rattle.workings.specs.Workings.{unrootedAt, stateAt, workedAt, givenOf}
+use Rattle.workings.specs.declared.Given.{Given}
 use Rattle.states.specs.declared.Single.{Single}
 use Rattle.states.specs.declared.Full.{Full}
 use Rattle.states.specs.declared.marks.Met.{Met}

@@ -4,9 +4,9 @@ use Rattle.arith.specs.F64.{_⊕_, _⊖_, _⊗_, _⊘_}
 use Rattle.properties.specs.declared.State.{State}
 use Rattle.liquid.specs.Region1.{state1}
 use Rattle.vapour.specs.Region2.{state2}
-use Rattle.states.specs.States.{givenOf}
+use Rattle.workings.specs.Workings.{givenOf}
 use Rattle.states.specs.Marks.{verifiedOf}
-use Rattle.states.specs.declared.Given.{Given}
+use Rattle.workings.specs.declared.Given.{Given}
 use Rattle.states.specs.declared.Wet.{Wet}
 
 -- the quality of a wet y between y' of saturated liquid and y'' of saturated vapour

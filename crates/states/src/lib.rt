@@ -4,7 +4,6 @@
 // kJ/kg, s and cp in kJ/(kg K), w in m/s.
 mod marks;
 mod mixing;
-mod worked;
 
 use equations::Equation;
 pub use marks::both_near;
@@ -14,15 +13,7 @@ pub use marks::marked;
 pub use marks::state_at;
 pub use mixing::wet_at;
 use properties::State;
-pub use worked::Worked;
-pub use worked::property;
-pub use worked::quotient_at;
-
-// Which property a query gives beside p.
-pub enum Given {
-    Enthalpy,
-    Entropy,
-}
+use workings::Worked;
 
 // A state of one phase, with the mark whether the forward equations come back to what was asked.
 pub struct Single {

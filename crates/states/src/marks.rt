@@ -1,9 +1,6 @@
 // Single-phase states with their marks (specs/Marks.antt).
 use crate::Full;
-use crate::Given;
 use crate::Single;
-use crate::worked::given_of;
-use crate::worked::worked_at;
 use dense::Region3;
 use dense::density;
 use equations::Equation;
@@ -14,6 +11,9 @@ use properties::Unrooted;
 use properties::rooted;
 use vapour::Region2;
 use vapour::Region5;
+use workings::Given;
+use workings::given_of;
+use workings::worked_at;
 ghost use mathlib.Core.Path.{_≡_};
 ghost use Rattle.properties.specs.Properties.{rootedOf};
 ghost use Rattle.equations.specs.Equations.{equationOf};

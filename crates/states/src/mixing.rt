@@ -1,11 +1,11 @@
 // Wet states: the saturated liquid and vapour mixed by the quality (004; specs/Mixing.antt).
-use crate::Given;
 use crate::Wet;
 use crate::marks::verified;
-use crate::worked::given_of;
 use liquid::Region1;
 use properties::Unrooted;
 use vapour::Region2;
+use workings::Given;
+use workings::given_of;
 ghost use mathlib.Core.Path.{_≡_};
 ghost use Rattle.properties.specs.Properties.{rootedOf};
 ghost use Rattle.states.specs.Mixing.{quality, mixed, mixtureOf, wetOf};

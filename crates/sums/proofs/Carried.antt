@@ -7,9 +7,9 @@ use Prim.Native.Nat.{ℕ}
 use denote.Enum.Declared.{tagOf}
 use types.Run.{OneOf}
 use lib.Ieee.{Float}
-use Rattle.states.specs.declared.Given.{Given}
+use Rattle.workings.specs.declared.Given.{Given}
 use Rattle.states.specs.Marks.{markedOf}
-use Rattle.states.specs.States.{stateAt, workedAt}
+use Rattle.workings.specs.Workings.{stateAt, workedAt}
 use Rattle.places.specs.declared.Place.{Place}
 use Rattle.places.specs.declared.Place.the-variants as Place
 use Rattle.places.specs.declared.Side.{Side}

@@ -3,8 +3,8 @@ use mathlib.Core.Bool.{Bool, true, false, cond}
 use Prim.Native.Nat.{ℕ}
 use lib.Dec.{eqb}
 use lib.Ieee.{Float, le}
-use Rattle.states.specs.declared.Given.{Given}
-use Rattle.states.specs.declared.Given.the-variants.{Enthalpy, Entropy}
+use Rattle.workings.specs.declared.Given.{Given}
+use Rattle.workings.specs.declared.Given.the-variants.{Enthalpy, Entropy}
 use Rattle.equations.specs.declared.Equation.{Equation}
 use Rattle.equations.specs.declared.Phase.{Phase}
 use Rattle.equations.specs.declared.Phase.the-variants.{Liquid, Vapour}

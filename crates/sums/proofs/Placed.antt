@@ -2,7 +2,7 @@
 use mathlib.Core.Path.{_≡_, refl}
 use lib.Ieee.{Float}
 use Rattle.states.specs.Marks.{markedOf}
-use Rattle.states.specs.declared.Given.{Given}
+use Rattle.workings.specs.declared.Given.{Given}
 use Rattle.places.specs.Answers as Places
 use Rattle.places.specs.Places.{placePT, placePY}
 use Rattle.places.specs.declared.Place.{Place}

@@ -3,9 +3,9 @@
 -- No promise of a public call cites this file. Definitions only.
 use Prim.Native.Nat.{ℕ}
 use lib.Ieee.{Float}
-use Rattle.states.specs.States.{slopesAt}
+use Rattle.workings.specs.Workings.{slopesAt}
 use Rattle.states.specs.Marks.{metAt, singleOf, markedOf, fullOf, handedOut}
-use Rattle.states.specs.declared.Given.{Given}
+use Rattle.workings.specs.declared.Given.{Given}
 use Rattle.slopes.specs.Slopes.{ratioAt}
 use Rattle.slopes.specs.declared.Derivative.{Derivative}
 use Rattle.slopes.specs.declared.Derivative.the-variants as Derivative

@@ -9,11 +9,11 @@ use Rattle.backward.specs.T1ps.{t1ps}
 use Rattle.backward.specs.P1hs.{p1hs}
 use Rattle.backward.specs.Region2.{t2ph, t2ps, p2hs}
 use Rattle.equations.specs.Equations.{isOf, equationOf}
-use Rattle.states.specs.States.{stateAt, givenOf}
+use Rattle.workings.specs.Workings.{stateAt, givenOf}
 use Rattle.states.specs.Marks.{bothNear, metAt, singleOf, markedOf, markedBothOf}
 use Rattle.states.specs.Mixing.{wetOf}
-use Rattle.states.specs.declared.Given.{Given}
-use Rattle.states.specs.declared.Given.the-variants.{Enthalpy, Entropy}
+use Rattle.workings.specs.declared.Given.{Given}
+use Rattle.workings.specs.declared.Given.the-variants.{Enthalpy, Entropy}
 use Rattle.places.specs.Places.{wild, pTriple, placePT, placePY}
 use Rattle.places.specs.declared.Place.{Place}
 use Rattle.places.specs.declared.Place.the-variants as Place

@@ -2,7 +2,7 @@
 use Prim.Native.Nat.{ℕ}
 use mathlib.Core.Bool.{cond}
 use lib.Ieee.{Float}
-use Rattle.states.specs.States.{slopesAt}
+use Rattle.workings.specs.Workings.{slopesAt}
 use Rattle.slopes.specs.Slopes.{ratioAt, allKnown}
 use Rattle.slopes.specs.declared.Derivative.{Derivative}
 use Rattle.slopes.specs.declared.Derivative.the-variants.{Refused}

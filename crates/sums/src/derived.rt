@@ -4,7 +4,7 @@ use crate::outcomes::Outcome;
 use crate::outcomes::of_hs;
 use crate::outcomes::of_kind;
 use slopes::Derivative;
-use states::quotient_at;
+use workings::quotient_at;
 ghost use mathlib.Core.Path.{_≡_};
 ghost use mathlib.Core.Bool.{true};
 ghost use Rattle.slopes.specs.Slopes.{allKnown};

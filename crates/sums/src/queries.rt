@@ -6,9 +6,9 @@ use crate::outcomes::of_py;
 use crate::outcomes::shown;
 use crate::outcomes::verified_in;
 use reply::Answer;
-use states::Given;
+use workings::Given;
 ghost use mathlib.Core.Path.{_≡_};
-ghost use Rattle.states.specs.declared.Given.the-variants.{Enthalpy, Entropy};
+ghost use Rattle.workings.specs.declared.Given.the-variants.{Enthalpy, Entropy};
 ghost use Rattle.sums.specs.Queries.{answerPT, answerPY, answerHS, answerOf};
 
 // From p in MPa and T in K.

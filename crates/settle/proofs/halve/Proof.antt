@@ -2,7 +2,7 @@
 use mathlib.Core.Path.{_≡_, refl}
 use borrow.Author.Needs.{needs}
 use Rattle.brackets.specs.Brackets.{middleOf}
-use Rattle.states.specs.States.{propertyAt}
+use Rattle.workings.specs.Workings.{propertyAt}
 use Rattle.settle.specs.Settle.{givenOf, halvedOf}
 use Rattle.settle.proofs.halve.Statement.{statement}
 use Rattle.settle.proofs.halve.Tie as tie

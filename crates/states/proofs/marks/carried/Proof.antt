@@ -3,7 +3,7 @@ use mathlib.Core.Path.{refl}
 use borrow.Author.Needs.{needs}
 use lib.Ieee.{round, ofBits}
 use Rattle.arith.specs.Printed.{printed}
-use Rattle.states.specs.States.{stateAt, workedAt}
+use Rattle.workings.specs.Workings.{stateAt, workedAt}
 use Rattle.states.proofs.marks.carried.Statement.{statement}
 use Rattle.states.proofs.marks.carried.Tie as tie
 

@@ -2,7 +2,7 @@
 use mathlib.Core.Path.{refl}
 use borrow.Author.Needs.{needs}
 use Rattle.properties.specs.Properties.{rootedOf}
-use Rattle.states.specs.States.{stateAt}
+use Rattle.workings.specs.Workings.{stateAt}
 use Rattle.states.specs.Marks.{markedOf}
 use Rattle.states.proofs.marks.marked.Statement.{statement}
 use Rattle.states.proofs.marks.marked.Tie as tie

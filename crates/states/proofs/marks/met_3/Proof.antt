@@ -3,7 +3,7 @@ use mathlib.Core.Path.{refl}
 use borrow.Author.Needs.{needs}
 use lib.Ieee.{round, ofBits}
 use Rattle.arith.specs.Printed.{printed}
-use Rattle.states.specs.States.{unrootedAt}
+use Rattle.workings.specs.Workings.{unrootedAt}
 use Rattle.states.proofs.marks.met_3.Statement.{statement}
 use Rattle.states.proofs.marks.met_3.Tie as tie
 

@@ -1,7 +1,7 @@
 -- `states::marks::met_at` meets its contract: each arm works by the equation that it stands for. Assumes nothing.
 use mathlib.Core.Path.{refl}
 use borrow.Author.Needs.{needs}
-use Rattle.states.specs.States.{unrootedAt}
+use Rattle.workings.specs.Workings.{unrootedAt}
 use Rattle.states.proofs.marks.met_at.Statement.{statement}
 use Rattle.states.proofs.marks.met_at.Tie as tie
 

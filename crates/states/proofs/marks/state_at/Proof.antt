@@ -1,7 +1,7 @@
 -- `states::marks::state_at` meets its contract: its properties and its mark are those of the equation, with the root of w². Assumes nothing.
 use mathlib.Core.Path.{refl}
 use borrow.Author.Needs.{needs}
-use Rattle.states.specs.States.{stateAt}
+use Rattle.workings.specs.Workings.{stateAt}
 use Rattle.states.proofs.marks.state_at.Statement.{statement}
 use Rattle.states.proofs.marks.state_at.Tie as tie
 

@@ -4,7 +4,7 @@ use mathlib.Core.Path.{ap}
 use lib.Ieee.{round, ofBits}
 use Rattle.arith.specs.Printed.{printed}
 use Rattle.properties.specs.Properties.{rootedOf}
-use Rattle.states.specs.States.{stateAt, workedAt}
+use Rattle.workings.specs.Workings.{stateAt, workedAt}
 use Rattle.states.specs.declared.Full.{Full}
 use Rattle.sums.specs.Queries.{agrees, agreedOf}
 use Rattle.sums.proofs.candidates.agreed.Statement.{statement}

@@ -1,6 +1,6 @@
 -- `sums::outcomes::temperature` meets its contract: each arm takes the equation that it stands for. Assumes nothing.
 use borrow.Author.Needs.{needs}
-use Rattle.states.specs.States.{givenOf}
+use Rattle.workings.specs.Workings.{givenOf}
 use Rattle.sums.specs.Queries.{temperatureOf}
 use Rattle.sums.proofs.outcomes.temperature.Statement.{statement}
 use Rattle.sums.proofs.outcomes.temperature.Tie as tie

@@ -1,4 +1,4 @@
-// The properties of a state and its slopes, by a basic equation at p and T (specs/States.antt).
+// The properties of a state and its slopes, by a basic equation at p and T (specs/Workings.antt).
 use crate::Given;
 use dense::Dense;
 use dense::Region3;
@@ -24,7 +24,7 @@ ghost use Rattle.dense.specs.Region3.{pressureOf3, unrootedOf3, responseOf3};
 ghost use Rattle.slopes.specs.Slopes.{slopesPT, slopesVT, derivativeAt};
 ghost use Rattle.equations.specs.Equations.{equationOf};
 ghost use Rattle.equations.specs.declared.Equation.the-variants as equation;
-ghost use Rattle.states.specs.States.{slopesAt, workedAt, givenOf, propertyAt};
+ghost use Rattle.workings.specs.Workings.{slopesAt, workedAt, givenOf, propertyAt};
 
 // The six properties with w squared, and the slopes, from one working of the sums.
 pub struct Worked {
@@ -101,7 +101,7 @@ pub fn quotient_at(equation: Equation, p: f64, t: f64, z: u64, x: u64, y: u64) -
 }
 
 // Both for a phase.
-pub(crate) fn worked_at(phase: Phase, p: f64, t: f64) -> Worked
+pub fn worked_at(phase: Phase, p: f64, t: f64) -> Worked
     ensures { λ r. ⌜ r ≡ workedAt (equationOf phase) p t ⌝ }
 {
     match phase {
@@ -123,7 +123,7 @@ pub(crate) fn worked_at(phase: Phase, p: f64, t: f64) -> Worked
 }
 
 // Of an h and an s, the one that is given.
-pub(crate) fn given_of(given: Given, h: f64, s: f64) -> f64
+pub fn given_of(given: Given, h: f64, s: f64) -> f64
     ensures { λ r. ⌜ r ≡ givenOf given h s ⌝ }
 {
     match given {

@@ -11,12 +11,12 @@ use Rattle.dense.specs.Density.{density3}
 use Rattle.slopes.specs.Slopes.{slopesPT, slopesVT}
 use Rattle.slopes.specs.declared.Slopes.{Slopes}
 use Rattle.equations.specs.Equations.{equationOf}
-use Rattle.states.specs.declared.Given.{Given}
-use Rattle.states.specs.declared.Given.the-variants.{Enthalpy, Entropy}
+use Rattle.workings.specs.declared.Given.{Given}
+use Rattle.workings.specs.declared.Given.the-variants.{Enthalpy, Entropy}
 use Rattle.equations.specs.declared.Equation.{Equation}
 use Rattle.equations.specs.declared.Equation.the-variants.{Region1, Region2, Region3, Region5}
 use Rattle.equations.specs.declared.Phase.{Phase}
-use Rattle.states.specs.declared.worked.Worked.{Worked}
+use Rattle.workings.specs.declared.worked.Worked.{Worked}
 
 -- the six properties, of w its square; those of region 3 at the density that is found for p and T
 unfoldable pub unrootedAt : Equation → Float → Float → Unrooted

@@ -1,9 +1,9 @@
--- `states::worked::dense_slopes` meets its contract: it is what `density`, `phi` and `slopes_3` promise. Assumes nothing.
+-- `workings::worked::dense_slopes` meets its contract: it is what `density`, `phi` and `slopes_3` promise. Assumes nothing.
 use mathlib.Core.Path.{refl}
 use borrow.Author.Needs.{needs}
-use Rattle.states.specs.States.{slopesAt}
-use Rattle.states.proofs.worked.dense_slopes.Statement.{statement}
-use Rattle.states.proofs.worked.dense_slopes.Tie as tie
+use Rattle.workings.specs.Workings.{slopesAt}
+use Rattle.workings.proofs.worked.dense_slopes.Statement.{statement}
+use Rattle.workings.proofs.worked.dense_slopes.Tie as tie
 
 returns : tie.Need-returns
 unfolding slopesAt

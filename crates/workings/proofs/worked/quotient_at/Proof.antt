@@ -1,9 +1,9 @@
--- `states::worked::quotient_at` meets its contract: each arm takes the slopes of the equation that it stands for. Assumes nothing.
+-- `workings::worked::quotient_at` meets its contract: each arm takes the slopes of the equation that it stands for. Assumes nothing.
 use mathlib.Core.Path.{refl}
 use borrow.Author.Needs.{needs}
-use Rattle.states.specs.States.{slopesAt}
-use Rattle.states.proofs.worked.quotient_at.Statement.{statement}
-use Rattle.states.proofs.worked.quotient_at.Tie as tie
+use Rattle.workings.specs.Workings.{slopesAt}
+use Rattle.workings.proofs.worked.quotient_at.Statement.{statement}
+use Rattle.workings.proofs.worked.quotient_at.Tie as tie
 
 returns : tie.Need-returns
 unfolding slopesAt

@@ -1,8 +1,8 @@
--- `states::worked::given_of` meets its contract: by cases. Assumes nothing.
+-- `workings::worked::given_of` meets its contract: by cases. Assumes nothing.
 use borrow.Author.Needs.{needs}
-use Rattle.states.specs.States.{givenOf}
-use Rattle.states.proofs.worked.given_of.Statement.{statement}
-use Rattle.states.proofs.worked.given_of.Tie as tie
+use Rattle.workings.specs.Workings.{givenOf}
+use Rattle.workings.proofs.worked.given_of.Statement.{statement}
+use Rattle.workings.proofs.worked.given_of.Tie as tie
 
 enum-told : tie.Need-enum-told
 enum-told c = search needs

@@ -1,10 +1,10 @@
--- `states::worked::property` meets its contract: each arm takes the property that it stands for. Assumes nothing.
+-- `workings::worked::property` meets its contract: each arm takes the property that it stands for. Assumes nothing.
 use borrow.Author.Needs.{needs}
 use Rattle.liquid.specs.Region1.{state1, stateOf1}
 use Rattle.vapour.specs.Region2.{state2, stateOf2}
-use Rattle.states.specs.States.{unrootedAt, stateAt, givenOf, propertyAt}
-use Rattle.states.proofs.worked.property.Statement.{statement}
-use Rattle.states.proofs.worked.property.Tie as tie
+use Rattle.workings.specs.Workings.{unrootedAt, stateAt, givenOf, propertyAt}
+use Rattle.workings.proofs.worked.property.Statement.{statement}
+use Rattle.workings.proofs.worked.property.Tie as tie
 
 returns : tie.Need-returns
 unfolding propertyAt givenOf stateAt unrootedAt state1 stateOf1

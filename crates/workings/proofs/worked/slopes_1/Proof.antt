@@ -1,8 +1,8 @@
--- `states::worked::slopes_1` meets its contract: the properties and the response are worked from the same γ. Assumes nothing.
+-- `workings::worked::slopes_1` meets its contract: the properties and the response are worked from the same γ. Assumes nothing.
 use mathlib.Core.Path.{refl}
 use borrow.Author.Needs.{needs}
-use Rattle.states.proofs.worked.slopes_1.Statement.{statement}
-use Rattle.states.proofs.worked.slopes_1.Tie as tie
+use Rattle.workings.proofs.worked.slopes_1.Statement.{statement}
+use Rattle.workings.proofs.worked.slopes_1.Tie as tie
 
 returns : tie.Need-returns
 returns c = rw (c .by-p-and-t .ensures, c .before .response-of .ensures, c .before .before .unrooted-of .ensures) refl

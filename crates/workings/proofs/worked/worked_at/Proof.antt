@@ -1,8 +1,8 @@
--- `states::worked::worked_at` meets its contract: properties and slopes are worked from the same γ. Assumes nothing.
+-- `workings::worked::worked_at` meets its contract: properties and slopes are worked from the same γ. Assumes nothing.
 use borrow.Author.Needs.{needs}
-use Rattle.states.specs.States.{unrootedAt, slopesAt, workedAt}
-use Rattle.states.proofs.worked.worked_at.Statement.{statement}
-use Rattle.states.proofs.worked.worked_at.Tie as tie
+use Rattle.workings.specs.Workings.{unrootedAt, slopesAt, workedAt}
+use Rattle.workings.proofs.worked.worked_at.Statement.{statement}
+use Rattle.workings.proofs.worked.worked_at.Tie as tie
 
 returns : tie.Need-returns
 unfolding workedAt slopesAt unrootedAt
