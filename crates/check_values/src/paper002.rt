@@ -1,11 +1,13 @@
-// The check values of 002, table by table: regions 1, 2 and 5, the saturation line, the boundaries
+// The check values of 002, table by table: regions 1, 2, 3 and 5, the saturation line, the boundaries
 // B23 and 2bc, and T(p,h) and T(p,s). Tables A24 and A28 have lost the exponents of their powers of
 // ten: in region 2 only 10^4 fits digits that begin with 1, and only 10^3 all others.
+use crate::decimals::print_byte;
 use crate::tally::Tally;
 use backward::t1_ph;
 use backward::t1_ps;
 use backward::t2_ph;
 use backward::t2_ps;
+use dense::Region3;
 use liquid::Region1;
 use properties::State;
 use saturation::p_2bc;
@@ -17,312 +19,345 @@ use vapour::Region2;
 use vapour::Region5;
 
 // All of them, in the paper's order.
-pub(crate) fn tables(tally: Tally) -> Tally {
-    let tally = a1(tally);
-    let tally = a3(tally);
-    let tally = a6(tally);
-    let tally = a12(tally);
-    let tally = a15(tally);
-    let tally = a17(tally);
-    let tally = a19(tally);
-    let tally = a20(tally);
-    let tally = a24(tally);
-    let tally = a28(tally);
+pub(crate) fn tables(mut tally: Tally) -> Tally {
+    tally = a1(tally);
+    tally = a3(tally);
+    tally = a6(tally);
+    tally = a10(tally);
+    tally = a12(tally);
+    tally = a15(tally);
+    tally = a17(tally);
+    tally = a19(tally);
+    tally = a20(tally);
+    tally = a24(tally);
+    tally = a28(tally);
     a29(tally)
 }
 
-// The six quantities of a state of a table, in the table's order: v, h, u, s, cp, w.
-fn six(tally: Tally, table: &[u8], point: &[u8], x: State, digits: [u64; 6], k: [i16; 6]) -> Tally {
-    let tally = v_h_u(tally, table, point, x, digits, k);
-    s_cp_w(tally, table, point, x, digits, k)
+// The six quantities of a state in a table's order. The first is v, or p where the density is given.
+struct Point {
+    first: f64,
+    h: f64,
+    u: f64,
+    s: f64,
+    cp: f64,
+    w: f64,
 }
 
-fn v_h_u(
-    tally: Tally,
-    table: &[u8],
-    point: &[u8],
-    x: State,
-    digits: [u64; 6],
-    k: [i16; 6],
+// Their lines at x and y, where the state is a. A letter stands for the name of each.
+fn six(
+    mut tally: Tally,
+    table: u64,
+    name: u8,
+    first: f64,
+    a: State,
+    x: f64,
+    y: f64,
+    printed: Point,
 ) -> Tally {
-    tally
-        .part(table, b"v", point, x.v, digits[0], k[0])
-        .part(table, b"h", point, x.h, digits[1], k[1])
-        .part(table, b"u", point, x.u, digits[2], k[2])
+    tally = one(tally, table, name, x, y, first, printed.first);
+    tally = one(tally, table, b'h', x, y, a.h, printed.h);
+    tally = one(tally, table, b'u', x, y, a.u, printed.u);
+    tally = one(tally, table, b's', x, y, a.s, printed.s);
+    tally = one(tally, table, b'c', x, y, a.cp, printed.cp);
+    one(tally, table, b'w', x, y, a.w, printed.w)
 }
 
-fn s_cp_w(
-    tally: Tally,
-    table: &[u8],
-    point: &[u8],
-    x: State,
-    digits: [u64; 6],
-    k: [i16; 6],
-) -> Tally {
-    tally
-        .part(table, b"s", point, x.s, digits[3], k[3])
-        .part(table, b"cp", point, x.cp, digits[4], k[4])
-        .part(table, b"w", point, x.w, digits[5], k[5])
+// The line of one of them; cp alone has a second letter.
+fn one(tally: Tally, table: u64, name: u8, x: f64, y: f64, computed: f64, printed: f64) -> Tally {
+    io::write_all(1, b"002-A");
+    io::print_decimal(1, table);
+    print_byte(b' ');
+    print_byte(name);
+    if name == b'c' {
+        print_byte(b'p');
+    }
+    tally.at(x, y, computed, printed)
 }
 
 // Table A1, footnote: the boundary B23, both ways.
-fn a1(tally: Tally) -> Tally {
-    tally
-        .line(b"002-A1 pB23(623.15)", p_b23(623.15), 165_291_643, 2)
-        .line(
-            b"002-A1 TB23(16.5291643)",
-            t_b23(16.5291643),
-            623_150_000,
-            3,
-        )
+fn a1(mut tally: Tally) -> Tally {
+    tally = tally.line(b"002-A1 pB23", 623.15, p_b23(623.15), 0.165291643e2);
+    tally.line(b"002-A1 TB23", 16.5291643, t_b23(16.5291643), 0.623150000e3)
 }
 
 // Table A3: region 1.
-fn a3(tally: Tally) -> Tally {
-    let tally = six(
+fn a3(mut tally: Tally) -> Tally {
+    tally = region1(
         tally,
-        b"002-A3 ",
-        b"(3,300)",
-        Region1::state(3.0, 300.0),
-        [
-            100_215_168,
-            115_331_273,
-            112_324_818,
-            392_294_792,
-            417_301_218,
-            150_773_921,
-        ],
-        [-2, 3, 3, 0, 1, 4],
+        3.0,
+        300.0,
+        Point {
+            first: 0.100215168e-2,
+            h: 0.115331273e3,
+            u: 0.112324818e3,
+            s: 0.392294792,
+            cp: 0.417301218e1,
+            w: 0.150773921e4,
+        },
     );
-    let tally = six(
+    tally = region1(
         tally,
-        b"002-A3 ",
-        b"(80,300)",
-        Region1::state(80.0, 300.0),
-        [
-            971_180_894,
-            184_142_828,
-            106_448_356,
-            368_563_852,
-            401_008_987,
-            163_469_054,
-        ],
-        [-3, 3, 3, 0, 1, 4],
+        80.0,
+        300.0,
+        Point {
+            first: 0.971180894e-3,
+            h: 0.184142828e3,
+            u: 0.106448356e3,
+            s: 0.368563852,
+            cp: 0.401008987e1,
+            w: 0.163469054e4,
+        },
     );
-    six(
+    region1(
         tally,
-        b"002-A3 ",
-        b"(3,500)",
-        Region1::state(3.0, 500.0),
-        [
-            120_241_800,
-            975_542_239,
-            971_934_985,
-            258_041_912,
-            465_580_682,
-            124_071_337,
-        ],
-        [-2, 3, 3, 1, 1, 4],
+        3.0,
+        500.0,
+        Point {
+            first: 0.120241800e-2,
+            h: 0.975542239e3,
+            u: 0.971934985e3,
+            s: 0.258041912e1,
+            cp: 0.465580682e1,
+            w: 0.124071337e4,
+        },
     )
 }
 
+fn region1(tally: Tally, p: f64, t: f64, printed: Point) -> Tally {
+    let a = Region1::state(p, t);
+    six(tally, 3, b'v', a.v, a, p, t, printed)
+}
+
 // Table A6: region 2.
-fn a6(tally: Tally) -> Tally {
-    let tally = six(
+fn a6(mut tally: Tally) -> Tally {
+    tally = region2(
         tally,
-        b"002-A6 ",
-        b"(0.0035,300)",
-        Region2::state(0.0035, 300.0),
-        [
-            394_913_866,
-            254_991_145,
-            241_169_160,
-            852_238_967,
-            191_300_162,
-            427_920_172,
-        ],
-        [2, 4, 4, 1, 1, 3],
+        0.0035,
+        300.0,
+        Point {
+            first: 0.394913866e2,
+            h: 0.254991145e4,
+            u: 0.241169160e4,
+            s: 0.852238967e1,
+            cp: 0.191300162e1,
+            w: 0.427920172e3,
+        },
     );
-    let tally = six(
+    tally = region2(
         tally,
-        b"002-A6 ",
-        b"(0.0035,700)",
-        Region2::state(0.0035, 700.0),
-        [
-            923_015_898,
-            333_568_375,
-            301_262_819,
-            101_749_996,
-            208_141_274,
-            644_289_068,
-        ],
-        [2, 4, 4, 2, 1, 3],
+        0.0035,
+        700.0,
+        Point {
+            first: 0.923015898e2,
+            h: 0.333568375e4,
+            u: 0.301262819e4,
+            s: 0.101749996e2,
+            cp: 0.208141274e1,
+            w: 0.644289068e3,
+        },
     );
+    region2(
+        tally,
+        30.0,
+        700.0,
+        Point {
+            first: 0.542946619e-2,
+            h: 0.263149474e4,
+            u: 0.246861076e4,
+            s: 0.517540298e1,
+            cp: 0.103505092e2,
+            w: 0.480386523e3,
+        },
+    )
+}
+
+fn region2(tally: Tally, p: f64, t: f64, printed: Point) -> Tally {
+    let a = Region2::state(p, t);
+    six(tally, 6, b'v', a.v, a, p, t, printed)
+}
+
+// Table A10: region 3.
+fn a10(mut tally: Tally) -> Tally {
+    tally = region3(
+        tally,
+        500.0,
+        650.0,
+        Point {
+            first: 0.255837018e2,
+            h: 0.186343019e4,
+            u: 0.181226279e4,
+            s: 0.405427273e1,
+            cp: 0.138935717e2,
+            w: 0.502005554e3,
+        },
+    );
+    tally = region3(
+        tally,
+        200.0,
+        650.0,
+        Point {
+            first: 0.222930643e2,
+            h: 0.237512401e4,
+            u: 0.226365868e4,
+            s: 0.485438792e1,
+            cp: 0.446579342e2,
+            w: 0.383444594e3,
+        },
+    );
+    region3(
+        tally,
+        500.0,
+        750.0,
+        Point {
+            first: 0.783095639e2,
+            h: 0.225868845e4,
+            u: 0.210206932e4,
+            s: 0.446971906e1,
+            cp: 0.634165359e1,
+            w: 0.760696041e3,
+        },
+    )
+}
+
+fn region3(tally: Tally, density: f64, t: f64, printed: Point) -> Tally {
+    let a = Region3::state(density, t);
     six(
         tally,
-        b"002-A6 ",
-        b"(30,700)",
-        Region2::state(30.0, 700.0),
-        [
-            542_946_619,
-            263_149_474,
-            246_861_076,
-            517_540_298,
-            103_505_092,
-            480_386_523,
-        ],
-        [-2, 4, 4, 1, 2, 3],
+        10,
+        b'p',
+        Region3::pressure(density, t),
+        a,
+        density,
+        t,
+        printed,
     )
 }
 
 // Table A12: the saturation pressure.
-fn a12(tally: Tally) -> Tally {
-    tally
-        .line(b"002-A12 ps(300)", ps(300.0), 353_658_941, -2)
-        .line(b"002-A12 ps(500)", ps(500.0), 263_889_776, 1)
-        .line(b"002-A12 ps(600)", ps(600.0), 123_443_146, 2)
+fn a12(mut tally: Tally) -> Tally {
+    let name: &[u8] = b"002-A12 ps";
+    tally = tally.line(name, 300.0, ps(300.0), 0.353658941e-2);
+    tally = tally.line(name, 500.0, ps(500.0), 0.263889776e1);
+    tally.line(name, 600.0, ps(600.0), 0.123443146e2)
 }
 
 // Table A15: region 5.
-fn a15(tally: Tally) -> Tally {
-    let tally = six(
+fn a15(mut tally: Tally) -> Tally {
+    tally = region5(
         tally,
-        b"002-A15 ",
-        b"(0.5,1500)",
-        Region5::state(0.5, 1500.0),
-        [
-            138_455_354,
-            521_976_332,
-            452_748_654,
-            965_408_431,
-            261_610_228,
-            917_071_933,
-        ],
-        [1, 4, 4, 1, 1, 3],
+        0.5,
+        1500.0,
+        Point {
+            first: 0.138455354e1,
+            h: 0.521976332e4,
+            u: 0.452748654e4,
+            s: 0.965408431e1,
+            cp: 0.261610228e1,
+            w: 0.917071933e3,
+        },
     );
-    let tally = six(
+    tally = region5(
         tally,
-        b"002-A15 ",
-        b"(8,1500)",
-        Region5::state(8.0, 1500.0),
-        [
-            865_156_616,
-            520_609_634,
-            451_397_105,
-            836_546_724,
-            264_453_866,
-            919_708_859,
-        ],
-        [-1, 4, 4, 1, 1, 3],
+        8.0,
+        1500.0,
+        Point {
+            first: 0.865156616e-1,
+            h: 0.520609634e4,
+            u: 0.451397105e4,
+            s: 0.836546724e1,
+            cp: 0.264453866e1,
+            w: 0.919708859e3,
+        },
     );
-    six(
+    region5(
         tally,
-        b"002-A15 ",
-        b"(8,2000)",
-        Region5::state(8.0, 2000.0),
-        [
-            115_743_146,
-            658_380_291,
-            565_785_774,
-            915_671_044,
-            285_306_750,
-            105_435_806,
-        ],
-        [0, 4, 4, 1, 1, 4],
+        8.0,
+        2000.0,
+        Point {
+            first: 0.115743146,
+            h: 0.658380291e4,
+            u: 0.565785774e4,
+            s: 0.915671044e1,
+            cp: 0.285306750e1,
+            w: 0.105435806e4,
+        },
     )
 }
 
+fn region5(tally: Tally, p: f64, t: f64, printed: Point) -> Tally {
+    let a = Region5::state(p, t);
+    six(tally, 15, b'v', a.v, a, p, t, printed)
+}
+
 // Table A17: T(p,h) of region 1.
-fn a17(tally: Tally) -> Tally {
-    tally
-        .line(b"002-A17 T1(3,500)", t1_ph(3.0, 500.0), 391_798_509, 3)
-        .line(b"002-A17 T1(80,500)", t1_ph(80.0, 500.0), 378_108_626, 3)
-        .line(b"002-A17 T1(80,1500)", t1_ph(80.0, 1500.0), 611_041_229, 3)
+fn a17(mut tally: Tally) -> Tally {
+    let name: &[u8] = b"002-A17 T1";
+    tally = tally.line_at(name, 3.0, 500.0, t1_ph(3.0, 500.0), 0.391798509e3);
+    tally = tally.line_at(name, 80.0, 500.0, t1_ph(80.0, 500.0), 0.378108626e3);
+    tally.line_at(name, 80.0, 1500.0, t1_ph(80.0, 1500.0), 0.611041229e3)
 }
 
 // Table A19: T(p,s) of region 1.
-fn a19(tally: Tally) -> Tally {
-    tally
-        .line(b"002-A19 T1(3,0.5)", t1_ps(3.0, 0.5), 307_842_258, 3)
-        .line(b"002-A19 T1(80,0.5)", t1_ps(80.0, 0.5), 309_979_785, 3)
-        .line(b"002-A19 T1(80,3)", t1_ps(80.0, 3.0), 565_899_909, 3)
+fn a19(mut tally: Tally) -> Tally {
+    let name: &[u8] = b"002-A19 T1";
+    tally = tally.line_at(name, 3.0, 0.5, t1_ps(3.0, 0.5), 0.307842258e3);
+    tally = tally.line_at(name, 80.0, 0.5, t1_ps(80.0, 0.5), 0.309979785e3);
+    tally.line_at(name, 80.0, 3.0, t1_ps(80.0, 3.0), 0.565899909e3)
 }
 
 // Table A20, footnote: the boundary 2bc.
 fn a20(tally: Tally) -> Tally {
     tally.line(
-        b"002-A20 p2bc(3516.004323)",
+        b"002-A20 p2bc",
+        3516.004323,
         p_2bc(3516.004323),
-        100_000_000,
-        3,
+        0.100000000e3,
     )
 }
 
-// Table A24: T(p,h) of region 2.
-fn a24(tally: Tally) -> Tally {
-    let tally = a24_2a(tally);
-    let tally = a24_2b(tally);
-    a24_2c(tally)
+// Table A24: T(p,h) of region 2, in its parts a, b and c.
+fn a24(mut tally: Tally) -> Tally {
+    tally = t2_of_ph(tally, b'a', 0.001, 3000.0, 0.534433241e3);
+    tally = t2_of_ph(tally, b'a', 3.0, 3000.0, 0.575373370e3);
+    tally = t2_of_ph(tally, b'a', 3.0, 4000.0, 0.101077577e4);
+    tally = t2_of_ph(tally, b'b', 5.0, 3500.0, 0.801299102e3);
+    tally = t2_of_ph(tally, b'b', 5.0, 4000.0, 0.101531583e4);
+    tally = t2_of_ph(tally, b'b', 25.0, 3500.0, 0.875279054e3);
+    tally = t2_of_ph(tally, b'c', 40.0, 2700.0, 0.743056411e3);
+    tally = t2_of_ph(tally, b'c', 60.0, 2700.0, 0.791137067e3);
+    t2_of_ph(tally, b'c', 60.0, 3200.0, 0.882756860e3)
 }
 
-fn a24_2a(tally: Tally) -> Tally {
-    tally
-        .line(
-            b"002-A24 T2a(0.001,3000)",
-            t2_ph(0.001, 3000.0),
-            534_433_241,
-            3,
-        )
-        .line(b"002-A24 T2a(3,3000)", t2_ph(3.0, 3000.0), 575_373_370, 3)
-        .line(b"002-A24 T2a(3,4000)", t2_ph(3.0, 4000.0), 101_077_577, 4)
+fn t2_of_ph(tally: Tally, part: u8, p: f64, h: f64, printed: f64) -> Tally {
+    io::write_all(1, b"002-A24 T2");
+    print_byte(part);
+    tally.at(p, h, t2_ph(p, h), printed)
 }
 
-fn a24_2b(tally: Tally) -> Tally {
-    tally
-        .line(b"002-A24 T2b(5,3500)", t2_ph(5.0, 3500.0), 801_299_102, 3)
-        .line(b"002-A24 T2b(5,4000)", t2_ph(5.0, 4000.0), 101_531_583, 4)
-        .line(b"002-A24 T2b(25,3500)", t2_ph(25.0, 3500.0), 875_279_054, 3)
+// Table A28: T(p,s) of region 2, in its parts a, b and c.
+fn a28(mut tally: Tally) -> Tally {
+    tally = t2_of_ps(tally, b'a', 0.1, 7.5, 0.399517097e3);
+    tally = t2_of_ps(tally, b'a', 0.1, 8.0, 0.514127081e3);
+    tally = t2_of_ps(tally, b'a', 2.5, 8.0, 0.103984917e4);
+    tally = t2_of_ps(tally, b'b', 8.0, 6.0, 0.600484040e3);
+    tally = t2_of_ps(tally, b'b', 8.0, 7.5, 0.106495556e4);
+    tally = t2_of_ps(tally, b'b', 90.0, 6.0, 0.103801126e4);
+    tally = t2_of_ps(tally, b'c', 20.0, 5.75, 0.697992849e3);
+    tally = t2_of_ps(tally, b'c', 80.0, 5.25, 0.854011484e3);
+    t2_of_ps(tally, b'c', 80.0, 5.75, 0.949017998e3)
 }
 
-fn a24_2c(tally: Tally) -> Tally {
-    tally
-        .line(b"002-A24 T2c(40,2700)", t2_ph(40.0, 2700.0), 743_056_411, 3)
-        .line(b"002-A24 T2c(60,2700)", t2_ph(60.0, 2700.0), 791_137_067, 3)
-        .line(b"002-A24 T2c(60,3200)", t2_ph(60.0, 3200.0), 882_756_860, 3)
-}
-
-// Table A28: T(p,s) of region 2.
-fn a28(tally: Tally) -> Tally {
-    let tally = a28_2a(tally);
-    let tally = a28_2b(tally);
-    a28_2c(tally)
-}
-
-fn a28_2a(tally: Tally) -> Tally {
-    tally
-        .line(b"002-A28 T2a(0.1,7.5)", t2_ps(0.1, 7.5), 399_517_097, 3)
-        .line(b"002-A28 T2a(0.1,8)", t2_ps(0.1, 8.0), 514_127_081, 3)
-        .line(b"002-A28 T2a(2.5,8)", t2_ps(2.5, 8.0), 103_984_917, 4)
-}
-
-fn a28_2b(tally: Tally) -> Tally {
-    tally
-        .line(b"002-A28 T2b(8,6)", t2_ps(8.0, 6.0), 600_484_040, 3)
-        .line(b"002-A28 T2b(8,7.5)", t2_ps(8.0, 7.5), 106_495_556, 4)
-        .line(b"002-A28 T2b(90,6)", t2_ps(90.0, 6.0), 103_801_126, 4)
-}
-
-fn a28_2c(tally: Tally) -> Tally {
-    tally
-        .line(b"002-A28 T2c(20,5.75)", t2_ps(20.0, 5.75), 697_992_849, 3)
-        .line(b"002-A28 T2c(80,5.25)", t2_ps(80.0, 5.25), 854_011_484, 3)
-        .line(b"002-A28 T2c(80,5.75)", t2_ps(80.0, 5.75), 949_017_998, 3)
+fn t2_of_ps(tally: Tally, part: u8, p: f64, s: f64, printed: f64) -> Tally {
+    io::write_all(1, b"002-A28 T2");
+    print_byte(part);
+    tally.at(p, s, t2_ps(p, s), printed)
 }
 
 // Table A29: the saturation temperature.
-fn a29(tally: Tally) -> Tally {
-    tally
-        .line(b"002-A29 Ts(0.1)", ts(0.1), 372_755_919, 3)
-        .line(b"002-A29 Ts(1)", ts(1.0), 453_035_632, 3)
-        .line(b"002-A29 Ts(10)", ts(10.0), 584_149_488, 3)
+fn a29(mut tally: Tally) -> Tally {
+    let name: &[u8] = b"002-A29 Ts";
+    tally = tally.line(name, 0.1, ts(0.1), 0.372755919e3);
+    tally = tally.line(name, 1.0, ts(1.0), 0.453035632e3);
+    tally.line(name, 10.0, ts(10.0), 0.584149488e3)
 }

@@ -1,10 +1,10 @@
--- `check_values::tally::nearest_whole` is safe: its two tests are the two ends of what can be cut to a u64. Assumes nothing.
+-- `check_values::decimals::nearest_whole` is safe: its two tests are the two ends of what can be cut to a u64. Assumes nothing.
 use mathlib.Core.Path.{sym, subst}
 use lib.Dec.{T}
 use lib.Ieee.{ofBits, neg}
 use borrow.Author.Needs.{needs}
-use Rattle.check_values.proofs.tally.nearest_whole.Statement.{statement}
-use Rattle.check_values.proofs.tally.nearest_whole.Tie as tie
+use Rattle.check_values.proofs.decimals.nearest_whole.Statement.{statement}
+use Rattle.check_values.proofs.decimals.nearest_whole.Tie as tie
 
 truncating-f64-to-u64-requires : tie.Need-truncating-f64-to-u64-requires
 unfolding ofBits neg
