@@ -55,26 +55,20 @@ fn three_of(x: f64) -> Three {
     }
 }
 
-// The derivative by these.
-fn some_quotient(kind: u64, a: f64, b: f64) -> Derivative {
-    let n = three_of(a);
+// The derivative by the three properties that x decides on.
+fn some_quotient(x: f64, kind: u64, a: f64, b: f64) -> Derivative {
+    let n = three_of(x);
     sums::quotient(kind, a, b, n.z, n.x, n.y)
 }
 
-// The derivative at a (p,T) state in region 3 by the three properties that x decides on.
-fn dense_quotient(x: f64, p: f64, t: f64) -> Derivative {
-    let n = three_of(x);
-    sums::quotient(1, p, t, n.z, n.x, n.y)
-}
-
 // The value of an operation in region 3 at x.
-fn dense(operation: u8, x: f64) -> f64 {
+fn dense_worked(operation: u8, x: f64) -> f64 {
     match operation {
         b'3' => sum_of(Region3::state(400.0 + 10.0 * x, 650.0 + 5.0 * x)),
         b'g' => dense::density(30.0 + x, 640.0 + 5.0 * x),
         b'L' => answered(sums::from_pt(30.0 + x, 640.0 + 5.0 * x)),
         b'M' => derived(sums::quotient(1, 30.0 + x, 640.0 + 5.0 * x, 3, 2, 1)),
-        b'N' => derived(dense_quotient(x, 30.0 + x, 640.0 + 5.0 * x)),
+        b'N' => derived(some_quotient(x, 1, 30.0 + x, 640.0 + 5.0 * x)),
         _ => x,
     }
 }
@@ -90,9 +84,9 @@ fn queried(operation: u8, x: f64) -> f64 {
         b'F' => answered(sums::from_hs(100.0 + 10.0 * x, 0.3 + 0.03 * x)),
         b'G' => derived(sums::quotient(1, x, 300.0 + 10.0 * x, 3, 2, 1)),
         b'H' => derived(sums::quotient(2, x, 100.0 + 10.0 * x, 3, 2, 1)),
-        b'I' => derived(some_quotient(1, x, 300.0 + 10.0 * x)),
-        b'J' => derived(some_quotient(2, x, 100.0 + 10.0 * x)),
-        _ => dense(operation, x),
+        b'I' => derived(some_quotient(x, 1, x, 300.0 + 10.0 * x)),
+        b'J' => derived(some_quotient(x, 2, x, 100.0 + 10.0 * x)),
+        _ => dense_worked(operation, x),
     }
 }
 

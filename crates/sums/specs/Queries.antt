@@ -1,6 +1,6 @@
 -- The four kinds of query, and the query whose kind is a number. Definitions only.
 use Prim.Native.Nat.{ℕ}
-use mathlib.Core.Bool.{Bool, true, false, cond, _&&_}
+use mathlib.Core.Bool.{Bool, false, cond, _&&_}
 use lib.Dec.{eqb}
 use lib.Ieee.{Float, le}
 use Rattle.arith.specs.Printed.{less, printed}

@@ -100,7 +100,7 @@ pub fn quotient_at(equation: Equation, p: f64, t: f64, z: u64, x: u64, y: u64) -
     }
 }
 
-// Both for a phase.
+// The six properties with w squared and the slopes, for a phase, from one working of the sums.
 pub fn worked_at(phase: Phase, p: f64, t: f64) -> Worked
     ensures { λ r. ⌜ r ≡ workedAt (equationOf phase) p t ⌝ }
 {
