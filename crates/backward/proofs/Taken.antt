@@ -2,7 +2,7 @@
 use mathlib.Core.Path.{_≡_, sym, ap, _∙_}
 use lib.Ieee.{Float}
 use Rattle.backward.specs.Region2.{chosen}
-use Rattle.backward.specs.declared.subregion.Subregion.{Subregion}
+use Rattle.subregions.specs.declared.subregion.Subregion.{Subregion}
 
 pub taken : (a b c : Float → Float → Float) (x y : Float) {found s arm : Subregion} {r : Float} → found ≡ s → found ≡ arm → r ≡ chosen arm a b c x y → r ≡ chosen s a b c x y
 taken a b c x y rule told e = e ∙ ap (λ t. chosen t a b c x y) (sym told ∙ rule)

@@ -2,9 +2,9 @@
 use crate::decimals::print_byte;
 use crate::tally::TEN_DIGITS;
 use crate::tally::Tally;
-use backward::h_2ab;
 use backward::p1_hs;
 use backward::p2_hs;
+use subregions::h_2ab;
 
 // All of them, in the paper's order.
 pub(crate) fn tables(mut tally: Tally) -> Tally {

@@ -4,8 +4,8 @@ use mathlib.Core.List.{map}
 use lib.Ieee.{round, ofInt, lt, le, add, mul}
 use Rattle.arith.specs.Printed.{printed}
 use Rattle.arith.specs.Bits.{finite}
-use Rattle.backward.specs.H2ab.{h2ab}
-use Rattle.backward.specs.Subregions.{byHs}
+use Rattle.subregions.specs.H2ab.{h2ab}
+use Rattle.subregions.specs.Subregions.{byHs}
 use Rattle.sheet.specs.Versions.{versionFor}
 use Rattle.sheet.specs.Write.{sheetOf}
 use Rattle.places.specs.Places.{placePT, tableOf}

@@ -5,9 +5,9 @@ use mathlib.Core.List.{List, [], _∷_}
 use lib.Ieee.{Float, nan}
 use Rattle.arith.specs.F64.{f64}
 use Rattle.arith.specs.Printed.{less, printed}
-use Rattle.backward.specs.Subregions.{byHs}
-use Rattle.backward.specs.declared.subregion.Subregion.{Subregion}
-use Rattle.backward.specs.declared.subregion.Subregion.the-variants.{A, B, C}
+use Rattle.subregions.specs.Subregions.{byHs}
+use Rattle.subregions.specs.declared.subregion.Subregion.{Subregion}
+use Rattle.subregions.specs.declared.subregion.Subregion.the-variants.{A, B, C}
 use Rattle.sheet.specs.Write.{sheetOf}
 use Rattle.reply.specs.Answers.{numberOf, regionOf}
 use Rattle.sums.specs.Queries.{answerPT}

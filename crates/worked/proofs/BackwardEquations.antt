@@ -25,8 +25,8 @@ use Rattle.backward.specs.P1hs as P1hs
 use Rattle.backward.specs.P2ahs as P2ahs
 use Rattle.backward.specs.P2bhs as P2bhs
 use Rattle.backward.specs.P2chs as P2chs
-use Rattle.backward.specs.H2ab.{h2ab}
-use Rattle.backward.specs.Subregions.{is2a, byPh, byPs, byHs}
+use Rattle.subregions.specs.H2ab.{h2ab}
+use Rattle.subregions.specs.Subregions.{is2a, byPh, byPs, byHs}
 use Rattle.backward.specs.Region2.{chosen, t2ph, t2ps, p2hs}
 
 -- a value worked out, and what the paper prints for it: digits · 10^power

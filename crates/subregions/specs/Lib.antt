@@ -1,0 +1,3 @@
+pub mod Coefficients
+pub mod H2ab
+pub mod Subregions
