@@ -1,4 +1,5 @@
 -- `workings::worked::given_of` meets its contract: by cases. Assumes nothing.
+use mathlib.Core.Path.{refl}
 use borrow.Author.Needs.{needs}
 use Rattle.workings.specs.Workings.{givenOf}
 use Rattle.workings.proofs.worked.given_of.Statement.{statement}
@@ -12,11 +13,11 @@ enum-told-2 c = search needs
 
 returns : tie.Need-returns
 unfolding givenOf
-returns c = rw (c .enum-told .given .1)
+returns c = rw (c .enum-told .given .1) refl
 
 returns-2 : tie.Need-returns-2
 unfolding givenOf
-returns-2 c = rw (c .enum-told2 .given .1)
+returns-2 c = rw (c .enum-told2 .given .1) refl
 
 pub given-of-spec : {M : Type 1} → statement M
 given-of-spec = tie.close (tie.spec enum-told enum-told-2 returns returns-2)
