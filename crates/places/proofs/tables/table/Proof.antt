@@ -30,11 +30,17 @@ p-b23-requires c κs = search needs
 
 returns-3 : tie.Need-returns-3
 unfolding tableOf printed round ofBits ofInt
-returns-3 c = rw (c .before .before .before .if1 .left, c .before .before .if3 .taken, ← c .before .p-b23 .ensures, c .if4 .taken)
+returns-3 c =
+    let warm = c .before .before in
+    let vapour : le (warm .before .before .args .p) (c .before .p-b23 .result) ≡ true = c .if4 .taken in
+    rw (warm .before .if1 .left, warm .if3 .taken, ← c .before .p-b23 .ensures, vapour) refl
 
 returns-4 : tie.Need-returns-4
 unfolding tableOf printed round ofBits ofInt
-returns-4 c = rw (c .before .before .before .if1 .left, c .before .before .if3 .taken, ← c .before .p-b23 .ensures, c .if4 .left)
+returns-4 c =
+    let warm = c .before .before in
+    let dense : le (warm .before .before .args .p) (c .before .p-b23 .result) ≡ false = c .if4 .left in
+    rw (warm .before .if1 .left, warm .if3 .taken, ← c .before .p-b23 .ensures, dense) refl
 
 returns-5 : tie.Need-returns-5
 unfolding tableOf printed round ofBits ofInt
