@@ -65,7 +65,7 @@ fn determinant(z: Change, y: Change) -> f64
     z.first * y.second - z.second * y.first
 }
 
-// Whether a denominator is neither zero nor without end.
+// Whether a denominator is finite and not zero, of either sign.
 fn divides(below: f64) -> bool
     ensures { λ r. ⌜ r ≡ dividesOf below ⌝ }
 {
