@@ -20,7 +20,7 @@
 use crate::backward::{p1_hs, p2_hs, t1_ph, t1_ps, t2_ph, t2_ps, Subregion};
 use crate::basic::{
     b23_pressure, b23_temperature, b2ab_enthalpy, b2bc_pressure, saturation_pressure,
-    saturation_temperature, Point, Region,
+    saturation_temperature, Point, Properties, Region,
 };
 use crate::helmholtz::DensePoint;
 use Subregion::{A, B, C};
@@ -127,17 +127,15 @@ fn of_subregion(
 /// A point, (p,T) or in region 3 (ρ,T), and the six values printed for it.
 type Column = (&'static str, &'static str, [&'static str; 6]);
 
+/// The quantities of a state in a table's order; which of them is the first, the table says.
+fn six(first: (&'static str, f64), state: Properties) -> [(&'static str, f64); 6] {
+    [first, ("h", state.h), ("u", state.u), ("s", state.s), ("cp", state.cp), ("w", state.w)]
+}
+
 fn property_table(table: &'static str, region: Region, columns: &[Column]) -> Vec<Check> {
     let values = |p, t| {
         let state = Point::new(region, p, t).properties();
-        [
-            ("v", state.v),
-            ("h", state.h),
-            ("u", state.u),
-            ("s", state.s),
-            ("cp", state.cp),
-            ("w", state.w),
-        ]
+        six(("v", state.v), state)
     };
     columns.iter().flat_map(|column| of_column(table, values, column)).collect()
 }
@@ -145,15 +143,7 @@ fn property_table(table: &'static str, region: Region, columns: &[Column]) -> Ve
 fn dense_table(table: &'static str, columns: &[Column]) -> Vec<Check> {
     let values = |density, t| {
         let point = DensePoint::new(density, t);
-        let state = point.properties();
-        [
-            ("p", point.pressure()),
-            ("h", state.h),
-            ("u", state.u),
-            ("s", state.s),
-            ("cp", state.cp),
-            ("w", state.w),
-        ]
+        six(("p", point.pressure()), point.properties())
     };
     columns.iter().flat_map(|column| of_column(table, values, column)).collect()
 }

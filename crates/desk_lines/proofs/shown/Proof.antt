@@ -45,7 +45,8 @@ loop-again c =
     let line = c .before .before in
     let inside = line .before .before .before in
     let l = inside .before in
-    let s = l .before .before .before .before .before .before in
+    let head = l .before .before .before in
+    let s = head .before .before .before in
     let i = l .loop .i in (
       omega arith,
       turned (λ k. rowLine k (row (s .args .t2) k)) i (l .loop .inv .1)

@@ -51,7 +51,7 @@ settled-at-requires : tie.Need-settled-at-requires
 settled-at-requires c κs = tt
 
 freed-requires : tie.Need-freed-requires
-freed-requires c κs = inside (c .before .before .before .before .before .before)
+freed-requires c κs = let ready = c .before .before .before in inside (ready .before .before .before)
 
 returns-2 : tie.Need-returns-2
 unfolding collectOf collectAt

@@ -64,7 +64,8 @@ region-requires c κs = tt
 
 admit-requires : tie.Need-admit-requires
 admit-requires c κs =
-    let known = c .before .before .before .before .before .before in
+    let within = c .before .before .before in
+    let known = within .before .before .before in
     (sound-here (known .before .before), caller-known known)
 
 returns-3 : tie.Need-returns-3

@@ -31,8 +31,8 @@ kind-known-requires c κs = tt
 
 returns : tie.Need-returns Inv-loop μ-loop
 returns c =
-    let a = c .before .before .before .before .before .before .args in
     let l = c .before .before .before in
+    let a = l .before .before .before .args in
     sym (kinds-bad (a .n) (a .rows .now) (l .before .loop .k) (l .loop-test .taken)
     (sym (c .before .kind-known .ensures ∙ ap kindKnown (c .before .before .u64-at .ensures)) ∙ not-true _ (c .if1 .taken)))
 

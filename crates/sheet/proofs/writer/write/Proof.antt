@@ -10,11 +10,11 @@ use Rattle.sheet.proofs.writer.write.Statement.{statement}
 use Rattle.sheet.proofs.writer.write.Tie as tie
 
 -- what was answered, in each arm
-refused : (c : tie.After-known-told) → let a = c .before .before .before .before .before .before .before .args in
+refused : (c : tie.After-known-told) → let judged = c .before .before .before in let a = judged .before .before .before .before .args in
     writeOf (a .note .now) (a .rows .now) (length (a .out .now)) ≡ Refused (c .before .w .given .0 .0)
 refused c = cc
 
-taken : (c : tie.After-known-told2) → let a = c .before .before .before .before .before .before .before .args in
+taken : (c : tie.After-known-told2) → let judged = c .before .before .before in let a = judged .before .before .before .before .args in
     writeOf (a .note .now) (a .rows .now) (length (a .out .now)) ≡ Length (c .before .w2 .given .0 .0)
 taken c = cc
 

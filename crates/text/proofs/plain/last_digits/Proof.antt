@@ -74,8 +74,9 @@ returns : tie.Need-returns Inv-loop μ-loop
 unfolding digitsFrom
 returns c =
     let b = c .before .before in
-    let l = b .before .before .before .before .before .loop in
-    let a = b .before .before .before .before .before .before .before .args in
+    let turns = b .before .before .before .before .before in
+    let l = turns .loop in
+    let a = turns .before .before .args in
     let z : 0 ≡ l .first = omega arith in
     let t : l .text ≡ digitsFrom 3 (a .n) ++ a .end ∷ [] = ap (λ (k : ℕ). digitsFrom k (l .left) ++ drop k (l .text)) z ∙ l .inv .1 in
     let whole : length (drop (3 - a .k) (l .text)) ≤ 4 - (3 - a .k) = simp length-drop (omega arith) in

@@ -14,19 +14,19 @@ use Rattle.transcript.proofs.steps.play.Statement.{statement}
 use Rattle.transcript.proofs.steps.play.Tie as tie
 
 -- what the record asks for, in each arm
-of-call : (c : tie.After-known-told) → deedOf (c .before .before .before .before .before .before .args .rest .now) ≡ Asked (c .before .deed .given .0 .0)
+of-call : (c : tie.After-known-told) → let read = c .before .before .before in deedOf (read .before .before .before .args .rest .now) ≡ Asked (c .before .deed .given .0 .0)
 of-call c = sym (c .before .before .before .read .ensures) ∙ c .before .deed .given .1
 
-of-turns : (c : tie.After-known-told2) → deedOf (c .before .before .before .before .before .before .args .rest .now) ≡ Turns (c .before .deed2 .given .0 .0)
+of-turns : (c : tie.After-known-told2) → let read = c .before .before .before in deedOf (read .before .before .before .args .rest .now) ≡ Turns (c .before .deed2 .given .0 .0)
 of-turns c = sym (c .before .before .before .read .ensures) ∙ c .before .deed2 .given .1
 
-of-desk : (c : tie.After-enum-told) → deedOf (c .before .before .before .before .before .args .rest .now) ≡ Given
+of-desk : (c : tie.After-enum-told) → let read = c .before .before in deedOf (read .before .before .before .args .rest .now) ≡ Given
 of-desk c = sym (c .before .before .read .ensures) ∙ c .enum-told .given .1
 
-of-show : (c : tie.After-enum-told2) → deedOf (c .before .before .before .before .before .args .rest .now) ≡ Shown
+of-show : (c : tie.After-enum-told2) → let read = c .before .before in deedOf (read .before .before .before .args .rest .now) ≡ Shown
 of-show c = sym (c .before .before .read .ensures) ∙ c .enum-told2 .given .1
 
-of-bad : (c : tie.After-enum-told3) → deedOf (c .before .before .before .before .before .args .rest .now) ≡ Bad
+of-bad : (c : tie.After-enum-told3) → let read = c .before .before in deedOf (read .before .before .before .args .rest .now) ≡ Bad
 of-bad c = sym (c .before .before .read .ensures) ∙ c .enum-told3 .given .1
 
 read-requires : tie.Need-read-requires
@@ -101,7 +101,8 @@ returns c =
     let line = c .before .before .before .before in
     let asked = line .before .before in
     let e = of-call (asked .before) in
-    let a = asked .before .before .before .before .before .before .before .args in
+    let read = asked .before .before .before .before in
+    let a = read .before .before .before .args in
     let call = asked .before .before .deed .given .0 .0 in
     let r = c .stepped .ensures in (
       record {
@@ -120,7 +121,8 @@ returns-2 c =
     let line = c .before .before .before .before in
     let turns = line .before .before in
     let e = of-turns (turns .before) in
-    let a = turns .before .before .before .before .before .before .before .args in
+    let read = turns .before .before .before .before in
+    let a = read .before .before .before .args in
     let r = c .stepped2 .ensures in (
       record {
         desk = ap (λ (s : Step). s .desk) r ∙ ap (λ (t : Turned). t .desk) (turns .turns .ensures) ∙ ap (deskAfter (a .rest .now) (a .d)) (sym e);
@@ -138,7 +140,8 @@ returns-3 c =
     let line = c .before .before .before in
     let desk = line .before .before .before in
     let e = of-desk (desk .before) in
-    let a = desk .before .before .before .before .before .before .args in
+    let read = desk .before .before .before in
+    let a = read .before .before .before .args in
     let r = c .stepped3 .ensures in (
       record {
         desk = ap (λ (s : Step). s .desk) r ∙ desk .desk-in .ensures ∙ ap (deskAfter (a .rest .now) (a .d)) (sym e);
@@ -156,7 +159,8 @@ returns-4 c =
     let line = c .before .before .before in
     let told = line .before .before in
     let e = of-show told in
-    let a = told .before .before .before .before .before .args in
+    let read = told .before .before in
+    let a = read .before .before .before .args in
     let r = c .stepped4 .ensures in (
       record {
         desk = ap (λ (s : Step). s .desk) r ∙ ap (deskAfter (a .rest .now) (a .d)) (sym e);
@@ -174,7 +178,8 @@ returns-5 c =
     let line = c .before .before .before in
     let told = line .before .before .before in
     let e = of-bad told in
-    let a = told .before .before .before .before .before .args in
+    let read = told .before .before in
+    let a = read .before .before .before .args in
     let r = c .stepped5 .ensures in (
       record {
         desk = ap (λ (s : Step). s .desk) r ∙ ap (deskAfter (a .rest .now) (a .d)) (sym e);
