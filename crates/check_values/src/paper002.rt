@@ -8,6 +8,7 @@ use backward::t1_ps;
 use backward::t2_ph;
 use backward::t2_ps;
 use dense::Region3;
+use hot::Region5;
 use liquid::Region1;
 use properties::State;
 use saturation::p_2bc;
@@ -15,8 +16,7 @@ use saturation::p_b23;
 use saturation::ps;
 use saturation::t_b23;
 use saturation::ts;
-use vapour::Region2;
-use vapour::Region5;
+use steam::Region2;
 
 // All of them, in the paper's order.
 pub(crate) fn tables(mut tally: Tally) -> Tally {

@@ -10,7 +10,7 @@ use liquid::Region1;
 use properties::State;
 use reply::Answer;
 use slopes::Derivative;
-use vapour::Region2;
+use steam::Region2;
 
 // Every property of a state, so that none is left unworked.
 fn sum_of(a: State) -> f64 {

@@ -3,7 +3,7 @@ use lib.Ieee.{Float}
 use Rattle.arith.specs.F64.{_⊕_, _⊖_, _⊗_, _⊘_}
 use Rattle.properties.specs.declared.State.{State}
 use Rattle.liquid.specs.Region1.{state1}
-use Rattle.vapour.specs.Region2.{state2}
+use Rattle.steam.specs.Region2.{state2}
 use Rattle.workings.specs.Workings.{givenOf}
 use Rattle.states.specs.Marks.{verifiedOf}
 use Rattle.workings.specs.declared.Given.{Given}

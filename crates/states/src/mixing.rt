@@ -3,7 +3,7 @@ use crate::Wet;
 use crate::marks::verified;
 use liquid::Region1;
 use properties::Unrooted;
-use vapour::Region2;
+use steam::Region2;
 use workings::Given;
 use workings::given_of;
 ghost use mathlib.Core.Path.{_≡_};

@@ -1,83 +1,23 @@
 -- No public call of this crate can give a second result: any two results that meet its promise are the same. Assumes nothing.
 use mathlib.Core.Path.{sym, _∙_}
 use Rattle.arith.proofs.Only.{Only}
-use Rattle.vapour.proofs.region2.Region2.point.Kinds as point-2-kinds
-use Rattle.vapour.proofs.region2.Region2.point.Reads as point-2
-use Rattle.vapour.proofs.region2.Region2.gamma.Kinds as gamma-2-kinds
-use Rattle.vapour.proofs.region2.Region2.gamma.Reads as gamma-2
-use Rattle.vapour.proofs.region2.Region2.unrooted_of.Kinds as unrooted-of-2-kinds
-use Rattle.vapour.proofs.region2.Region2.unrooted_of.Reads as unrooted-of-2
-use Rattle.vapour.proofs.region2.Region2.state_of.Kinds as state-of-2-kinds
-use Rattle.vapour.proofs.region2.Region2.state_of.Reads as state-of-2
-use Rattle.vapour.proofs.region2.Region2.state.Kinds as state-2-kinds
-use Rattle.vapour.proofs.region2.Region2.state.Reads as state-2
-use Rattle.vapour.proofs.region2.Region2.response_of.Kinds as response-of-2-kinds
-use Rattle.vapour.proofs.region2.Region2.response_of.Reads as response-of-2
-use Rattle.vapour.proofs.region2.Region2.h.Kinds as h-2-kinds
-use Rattle.vapour.proofs.region2.Region2.h.Reads as h-2
-use Rattle.vapour.proofs.region2.Region2.s.Kinds as s-2-kinds
-use Rattle.vapour.proofs.region2.Region2.s.Reads as s-2
-use Rattle.vapour.proofs.region5.Region5.point.Kinds as point-5-kinds
-use Rattle.vapour.proofs.region5.Region5.point.Reads as point-5
-use Rattle.vapour.proofs.region5.Region5.gamma.Kinds as gamma-5-kinds
-use Rattle.vapour.proofs.region5.Region5.gamma.Reads as gamma-5
-use Rattle.vapour.proofs.region5.Region5.unrooted_of.Kinds as unrooted-of-5-kinds
-use Rattle.vapour.proofs.region5.Region5.unrooted_of.Reads as unrooted-of-5
-use Rattle.vapour.proofs.region5.Region5.state_of.Kinds as state-of-5-kinds
-use Rattle.vapour.proofs.region5.Region5.state_of.Reads as state-of-5
-use Rattle.vapour.proofs.region5.Region5.state.Kinds as state-5-kinds
-use Rattle.vapour.proofs.region5.Region5.state.Reads as state-5
-use Rattle.vapour.proofs.region5.Region5.response_of.Kinds as response-of-5-kinds
-use Rattle.vapour.proofs.region5.Region5.response_of.Reads as response-of-5
-use Rattle.vapour.proofs.region5.Region5.h.Kinds as h-5-kinds
-use Rattle.vapour.proofs.region5.Region5.h.Reads as h-5
-use Rattle.vapour.proofs.region5.Region5.s.Kinds as s-5-kinds
-use Rattle.vapour.proofs.region5.Region5.s.Reads as s-5
+use Rattle.vapour.proofs.vapours.gibbs.Kinds as gibbs-kinds
+use Rattle.vapour.proofs.vapours.gibbs.Reads as gibbs
+use Rattle.vapour.proofs.vapours.added.Kinds as added-kinds
+use Rattle.vapour.proofs.vapours.added.Reads as added
+use Rattle.vapour.proofs.vapours.unrooted_at.Kinds as unrooted-at-kinds
+use Rattle.vapour.proofs.vapours.unrooted_at.Reads as unrooted-at
+use Rattle.vapour.proofs.vapours.response_at.Kinds as response-at-kinds
+use Rattle.vapour.proofs.vapours.response_at.Reads as response-at
 
-pub point-2-only : Only 0 point-2-kinds.ps point-2-kinds.r point-2.Post
-point-2-only κs a x y s t p q = p ∙ sym q
+pub gibbs-only : Only 0 gibbs-kinds.ps gibbs-kinds.r gibbs.Post
+gibbs-only κs a x y s t p q = p ∙ sym q
 
-pub gamma-2-only : Only 0 gamma-2-kinds.ps gamma-2-kinds.r gamma-2.Post
-gamma-2-only κs a x y s t p q = p ∙ sym q
+pub added-only : Only 0 added-kinds.ps added-kinds.r added.Post
+added-only κs a x y s t p q = p ∙ sym q
 
-pub unrooted-of-2-only : Only 0 unrooted-of-2-kinds.ps unrooted-of-2-kinds.r unrooted-of-2.Post
-unrooted-of-2-only κs a x y s t p q = p ∙ sym q
+pub unrooted-at-only : Only 0 unrooted-at-kinds.ps unrooted-at-kinds.r unrooted-at.Post
+unrooted-at-only κs a x y s t p q = p ∙ sym q
 
-pub state-of-2-only : Only 0 state-of-2-kinds.ps state-of-2-kinds.r state-of-2.Post
-state-of-2-only κs a x y s t p q = p ∙ sym q
-
-pub state-2-only : Only 0 state-2-kinds.ps state-2-kinds.r state-2.Post
-state-2-only κs a x y s t p q = p ∙ sym q
-
-pub response-of-2-only : Only 0 response-of-2-kinds.ps response-of-2-kinds.r response-of-2.Post
-response-of-2-only κs a x y s t p q = p ∙ sym q
-
-pub h-2-only : Only 0 h-2-kinds.ps h-2-kinds.r h-2.Post
-h-2-only κs a x y s t p q = p ∙ sym q
-
-pub s-2-only : Only 0 s-2-kinds.ps s-2-kinds.r s-2.Post
-s-2-only κs a x y s t p q = p ∙ sym q
-
-pub point-5-only : Only 0 point-5-kinds.ps point-5-kinds.r point-5.Post
-point-5-only κs a x y s t p q = p ∙ sym q
-
-pub gamma-5-only : Only 0 gamma-5-kinds.ps gamma-5-kinds.r gamma-5.Post
-gamma-5-only κs a x y s t p q = p ∙ sym q
-
-pub unrooted-of-5-only : Only 0 unrooted-of-5-kinds.ps unrooted-of-5-kinds.r unrooted-of-5.Post
-unrooted-of-5-only κs a x y s t p q = p ∙ sym q
-
-pub state-of-5-only : Only 0 state-of-5-kinds.ps state-of-5-kinds.r state-of-5.Post
-state-of-5-only κs a x y s t p q = p ∙ sym q
-
-pub state-5-only : Only 0 state-5-kinds.ps state-5-kinds.r state-5.Post
-state-5-only κs a x y s t p q = p ∙ sym q
-
-pub response-of-5-only : Only 0 response-of-5-kinds.ps response-of-5-kinds.r response-of-5.Post
-response-of-5-only κs a x y s t p q = p ∙ sym q
-
-pub h-5-only : Only 0 h-5-kinds.ps h-5-kinds.r h-5.Post
-h-5-only κs a x y s t p q = p ∙ sym q
-
-pub s-5-only : Only 0 s-5-kinds.ps s-5-kinds.r s-5.Post
-s-5-only κs a x y s t p q = p ∙ sym q
+pub response-at-only : Only 0 response-at-kinds.ps response-at-kinds.r response-at.Post
+response-at-only κs a x y s t p q = p ∙ sym q

@@ -1,3 +1,1 @@
 pub mod Vapour
-pub mod Region2
-pub mod Region5

@@ -1,14 +1,14 @@
-// The basic equations of regions 2 and 5 of IAPWS-IF97 (002), vapour from p and T. Every call takes every
-// number; what it answers is said in specs/.
-mod region2;
-mod region5;
+// What the basic equations of vapour in IAPWS-IF97 (002) share, regions 2 and 5: γ is made of an ideal-gas
+// part and a residual part, and the formulas around it are the same. Every call takes every number; what it
+// answers is said in specs/.
 mod vapours;
 
-pub use region2::Region2;
-pub use region5::Region5;
+pub use vapours::added;
+pub use vapours::gibbs;
+pub use vapours::response_at;
+pub use vapours::unrooted_at;
 
-// γ = γ° + γʳ of region 2 or 5 with its derivatives γπ, γτ and γττ, and the residual part's γʳπ,
-// γʳππ and γʳπτ.
+// γ = γ° + γʳ with its derivatives γπ, γτ and γττ, and the residual part's γʳπ, γʳππ and γʳπτ.
 pub struct Vapour {
     pub g: f64,
     pub gp: f64,

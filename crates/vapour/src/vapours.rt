@@ -9,14 +9,14 @@ ghost use mathlib.Core.Path.{_≡_};
 ghost use Rattle.vapour.specs.Vapour.{gibbsOf, vapourOf, vapourUnrooted, vapourResponse};
 
 // γ = γ° + γʳ, from the sum of each part.
-pub(crate) fn gibbs(pi: f64, ideal: f64, residual: f64) -> f64
+pub fn gibbs(pi: f64, ideal: f64, residual: f64) -> f64
     ensures { λ r. ⌜ r ≡ gibbsOf pi ideal residual ⌝ }
 {
     arith::log(pi) + ideal + residual
 }
 
 // The ideal-gas part and the residual part added, from the sums of each.
-pub(crate) fn added(pi: f64, ideal: Six, residual: Six) -> Vapour
+pub fn added(pi: f64, ideal: Six, residual: Six) -> Vapour
     ensures { λ r. ⌜ r ≡ vapourOf pi ideal residual ⌝ }
 {
     Vapour {
@@ -31,7 +31,7 @@ pub(crate) fn added(pi: f64, ideal: Six, residual: Six) -> Vapour
 }
 
 // The six properties with w squared.
-pub(crate) fn unrooted_at(x: Point, g: Vapour) -> Unrooted
+pub fn unrooted_at(x: Point, g: Vapour) -> Unrooted
     ensures { λ r. ⌜ r ≡ vapourUnrooted x g ⌝ }
 {
     let d = 1.0 + x.pi * g.rp - x.tau * x.pi * g.rpt;
@@ -41,7 +41,7 @@ pub(crate) fn unrooted_at(x: Point, g: Vapour) -> Unrooted
 }
 
 // α and κ.
-pub(crate) fn response_at(x: Point, g: Vapour) -> Response
+pub fn response_at(x: Point, g: Vapour) -> Response
     ensures { λ r. ⌜ r ≡ vapourResponse x g ⌝ }
 {
     let e = 1.0 + x.pi * g.rp;

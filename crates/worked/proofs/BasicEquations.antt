@@ -13,8 +13,8 @@ use Rattle.terms.specs.Six.{sixOf}
 use Rattle.properties.specs.Properties.{unrootedOf, rootedOf}
 use Rattle.liquid.specs.Region1.{table1, point1, sum1, gamma1, unrootedOf1, stateOf1, state1}
 use Rattle.vapour.specs.Vapour.{vapourOf, vapourUnrooted}
-use Rattle.vapour.specs.Region2.{ideal2, residual2, point2, gamma2, unrootedOf2, stateOf2, state2}
-use Rattle.vapour.specs.Region5.{ideal5, residual5, point5, gamma5, unrootedOf5, stateOf5, state5}
+use Rattle.steam.specs.Region2.{ideal2, residual2, point2, gamma2, unrootedOf2, stateOf2, state2}
+use Rattle.hot.specs.Region5.{ideal5, residual5, point5, gamma5, unrootedOf5, stateOf5, state5}
 use Rattle.dense.specs.Region3.{table3, point3, phiOf3, phi3, pressureOf3, pressure3, unrootedAt3, unrootedOf3, stateOf3, state3}
 use Rattle.saturation.specs.Saturation.{psOf, tsOf}
 

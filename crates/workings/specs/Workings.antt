@@ -4,8 +4,8 @@ use Rattle.properties.specs.Properties.{rootedOf}
 use Rattle.properties.specs.declared.State.{State}
 use Rattle.properties.specs.declared.Unrooted.{Unrooted}
 use Rattle.liquid.specs.Region1.{gamma1, unrootedOf1, responseOf1}
-use Rattle.vapour.specs.Region2.{gamma2, unrootedOf2, responseOf2}
-use Rattle.vapour.specs.Region5.{gamma5, unrootedOf5, responseOf5}
+use Rattle.steam.specs.Region2.{gamma2, unrootedOf2, responseOf2}
+use Rattle.hot.specs.Region5.{gamma5, unrootedOf5, responseOf5}
 use Rattle.dense.specs.Region3.{phi3, pressureOf3, unrootedOf3, responseOf3}
 use Rattle.dense.specs.Density.{density3}
 use Rattle.slopes.specs.Slopes.{slopesPT, slopesVT}

@@ -1,7 +1,7 @@
 -- `states::mixing::wet_at` meets its contract: both saturated states are those of p and t, of which the roots are not taken. Assumes nothing.
 use borrow.Author.Needs.{needs}
 use Rattle.liquid.specs.Region1.{state1, stateOf1}
-use Rattle.vapour.specs.Region2.{state2, stateOf2}
+use Rattle.steam.specs.Region2.{state2, stateOf2}
 use Rattle.states.specs.Mixing.{wetOf}
 use Rattle.states.proofs.mixing.wet_at.Statement.{statement}
 use Rattle.states.proofs.mixing.wet_at.Tie as tie

@@ -1,7 +1,7 @@
 -- `workings::worked::property` meets its contract: each arm takes the property that it stands for. Assumes nothing.
 use borrow.Author.Needs.{needs}
 use Rattle.liquid.specs.Region1.{state1, stateOf1}
-use Rattle.vapour.specs.Region2.{state2, stateOf2}
+use Rattle.steam.specs.Region2.{state2, stateOf2}
 use Rattle.workings.specs.Workings.{unrootedAt, stateAt, givenOf, propertyAt}
 use Rattle.workings.proofs.worked.property.Statement.{statement}
 use Rattle.workings.proofs.worked.property.Tie as tie

@@ -1,0 +1,17 @@
+-- `steam::region2::Region2::residual_slope` meets its contract: the three arrays are Table A5 row by row, which computing shows. Assumes nothing.
+use mathlib.Core.Path.{refl}
+use lib.Ieee.{round, ofBits, neg}
+use borrow.Author.Needs.{needs}
+use Rattle.arith.specs.Printed.{printed}
+use Rattle.terms.specs.Sum.{rows}
+use Rattle.terms.proofs.Lent.{lent-sum}
+use Rattle.steam.specs.Region2.{residual2}
+use Rattle.steam.proofs.region2.Region2.residual_slope.Statement.{statement}
+use Rattle.steam.proofs.region2.Region2.residual_slope.Tie as tie
+
+returns : tie.Need-returns
+unfolding rows residual2 printed round ofBits neg
+returns c = lent-sum residual2 0 1 _ _ (c .slope-by-b .ensures) refl
+
+pub residual-slope-spec : {M : Type 1} → statement M
+residual-slope-spec = tie.close (tie.spec (λ c. search needs) (λ c. search needs) (λ c. search needs) (λ c κs. search needs) returns)
