@@ -4,7 +4,7 @@ use mathlib.Core.Bool.{true, false}
 use borrow.Author.Needs.{needs}
 use lib.Ieee.{le, round, ofBits, ofInt}
 use Rattle.arith.specs.Printed.{printed}
-use Rattle.places.specs.Places.{tableOf}
+use Rattle.places.specs.Places.{pMost5, tableOf}
 use Rattle.places.proofs.tables.table.Statement.{statement}
 use Rattle.places.proofs.tables.table.Tie as tie
 
@@ -48,11 +48,17 @@ returns-5 c = rw (c .before .before .if1 .left, c .before .if3 .left, c .if5 .ta
 
 returns-6 : tie.Need-returns-6
 unfolding tableOf printed round ofBits ofInt
-returns-6 c = rw (c .before .before .before .if1 .left, c .before .before .if3 .left, c .before .if5 .left, c .if6 .taken)
+returns-6 c =
+    let warm = c .before .before in
+    let within : le (warm .before .before .args .p) pMost5 ≡ true = c .if6 .taken in
+    rw (warm .before .if1 .left, warm .if3 .left, c .before .if5 .left, within) refl
 
 returns-7 : tie.Need-returns-7
 unfolding tableOf printed round ofBits ofInt
-returns-7 c = rw (c .before .before .before .if1 .left, c .before .before .if3 .left, c .before .if5 .left, c .if6 .left)
+returns-7 c =
+    let warm = c .before .before in
+    let above : le (warm .before .before .args .p) pMost5 ≡ false = c .if6 .left in
+    rw (warm .before .if1 .left, warm .if3 .left, c .before .if5 .left, above) refl
 
 pub table-spec : {M : Type 1} → statement M
 table-spec =

@@ -1,4 +1,4 @@
--- `hot::region5::Region5::residual_slope` meets its contract: the three arrays are Table A14 row by row, which computing shows. Assumes nothing.
+-- `hot::region5::Region5::residual_slope` meets its contract: the three arrays are the residual table row by row, which computing shows. Assumes nothing.
 use mathlib.Core.Path.{refl}
 use lib.Ieee.{round, ofBits, neg}
 use borrow.Author.Needs.{needs}

@@ -1,4 +1,4 @@
--- `steam::region2::Region2::ideal_slope` meets its contract: the three arrays are Table A4 row by row, which computing shows. Assumes nothing.
+-- `steam::region2::Region2::ideal_slope` meets its contract: the three arrays are the ideal-gas table row by row, which computing shows. Assumes nothing.
 use mathlib.Core.Path.{refl}
 use lib.Ieee.{round, ofBits, neg}
 use borrow.Author.Needs.{needs}
