@@ -1,11 +1,12 @@
 //! The basic equations of 002 but that of region 3: regions 1, 2 and 5, the saturation
-//! line and the boundaries B23, 2bc and 2ab. Units: p in MPa, T in K, v in m³/kg, u and h in
-//! kJ/kg, s and cp in kJ/(kg K), w in m/s. The association of each formula is fixed;
-//! parentheses below are part of it.
+//! line and the boundaries B23, 2bc and 2ab. Region 5 has the coefficients of R7-97 in
+//! 002's equation. Units: p in MPa, T in K, v in m³/kg, u and h in kJ/kg, s and cp in
+//! kJ/(kg K), w in m/s. The association of each formula is fixed; parentheses below are
+//! part of it.
 
 use crate::arithmetic::{fourth_root, logarithm, power, root};
 use crate::sums::derivative;
-use crate::tables::{Term, A1, A11, A13, A14, A2, A20, A4, A5, HS5};
+use crate::tables::{Term, A1, A11, A2, A20, A4, A5, HS5, R7_37, R7_38};
 
 /// The specific gas constant R, Eq. (1), in kJ/(kg K).
 pub const R: f64 = 0.461526;
@@ -42,7 +43,7 @@ impl Region {
         match self {
             Region::One => None,
             Region::Two => Some(&A4),
-            Region::Five => Some(&A13),
+            Region::Five => Some(&R7_37),
         }
     }
 }
@@ -209,7 +210,7 @@ impl Point {
                 (0..in_pi).fold(sum, |sum, _| -sum)
             }
             Region::Two => derivative(&A5, pi, tau - 0.5, in_pi, in_tau),
-            Region::Five => derivative(&A14, pi, tau, in_pi, in_tau),
+            Region::Five => derivative(&R7_38, pi, tau, in_pi, in_tau),
         }
     }
 }
