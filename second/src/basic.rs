@@ -59,6 +59,16 @@ pub struct Properties {
     pub w: f64,
 }
 
+#[cfg(test)]
+impl Properties {
+    /// Whether what two equations give at a border of their regions agrees within the Prague
+    /// values of 002 (4.3).
+    pub fn meets(&self, other: &Properties) -> bool {
+        let (v, h, s) = (self.v / other.v - 1.0, self.h - other.h, self.s - other.s);
+        v.abs() < 5e-4 && h.abs() < 0.2 && s.abs() < 2e-4
+    }
+}
+
 /// A point (p,T) at which one region's basic equation is evaluated.
 #[derive(Clone, Copy)]
 pub struct Point {
@@ -285,15 +295,27 @@ mod tests {
 
     #[test]
     fn expansion_and_compressibility_are_slopes_of_the_volume() {
-        for (region, p, t) in
-            [(Region::One, 20.0, 400.0), (Region::Two, 5.0, 700.0), (Region::Five, 5.0, 1500.0)]
-        {
+        for (region, p, t) in [
+            (Region::One, 20.0, 400.0),
+            (Region::Two, 5.0, 700.0),
+            (Region::Five, 5.0, 1500.0),
+            (Region::Five, 45.0, 1100.0),
+        ] {
             let point = Point::new(region, p, t);
             let v_at = |p, t| Point::new(region, p, t).v();
             let v_t = (v_at(p, t + 0.01) - v_at(p, t - 0.01)) / 0.02;
             let v_p = (v_at(p + 0.001, t) - v_at(p - 0.001, t)) / 2.0;
             assert!((point.alpha() * point.v() / v_t - 1.0).abs() < 1e-5);
             assert!((-point.kappa() * point.v() / v_p - 1.0).abs() < 1e-5);
+        }
+    }
+
+    #[test]
+    fn region_5_meets_region_2() {
+        for p in [0.000001, 0.1, 1.0, 5.0, 10.0, 15.0, 20.0, 30.0, 40.0, 50.0] {
+            let [here, there] =
+                [Region::Five, Region::Two].map(|region| Point::new(region, p, 1073.15));
+            assert!(here.properties().meets(&there.properties()), "{p}");
         }
     }
 }
