@@ -14,8 +14,8 @@ const P_002: f64 = 10.0;
 pub fn ties() -> Vec<Query> {
     let pressures = [around_all(&[P_LOWEST, P_002, P_REGION_5]), vec![0.5, 30.0]].concat();
     let temperatures = [around_all(&[T_25, T_HIGHEST]), vec![1100.0, 1500.0, 2000.0]].concat();
-    let at = |t: f64| pressures.iter().map(move |&p| (1, p, t));
-    temperatures.into_iter().flat_map(at).collect()
+    let at = |p: f64| temperatures.iter().map(move |&t| (1, p, t));
+    pressures.into_iter().flat_map(at).collect()
 }
 
 /// A query of any of these. Pressure and temperature are drawn by themselves, so that an end
