@@ -1,11 +1,12 @@
 //! The basic equations of 002 but that of region 3: regions 1, 2 and 5, the saturation
-//! line and the boundaries B23, 2bc and 2ab. Units: p in MPa, T in K, v in m³/kg, u and h in
-//! kJ/kg, s and cp in kJ/(kg K), w in m/s. The association of each formula is fixed;
-//! parentheses below are part of it.
+//! line and the boundaries B23, 2bc and 2ab. Region 5 has the coefficients of R7-97 in
+//! 002's equation. Units: p in MPa, T in K, v in m³/kg, u and h in kJ/kg, s and cp in
+//! kJ/(kg K), w in m/s. The association of each formula is fixed; parentheses below are
+//! part of it.
 
 use crate::arithmetic::{fourth_root, logarithm, power, root};
 use crate::sums::derivative;
-use crate::tables::{Term, A1, A11, A13, A14, A2, A20, A4, A5, HS5};
+use crate::tables::{Term, A1, A11, A2, A20, A4, A5, HS5, R7_37, R7_38};
 
 /// The specific gas constant R, Eq. (1), in kJ/(kg K).
 pub const R: f64 = 0.461526;
@@ -42,7 +43,7 @@ impl Region {
         match self {
             Region::One => None,
             Region::Two => Some(&A4),
-            Region::Five => Some(&A13),
+            Region::Five => Some(&R7_37),
         }
     }
 }
@@ -56,6 +57,16 @@ pub struct Properties {
     pub s: f64,
     pub cp: f64,
     pub w: f64,
+}
+
+#[cfg(test)]
+impl Properties {
+    /// Whether what two equations give at a border of their regions agrees within the Prague
+    /// values of 002 (4.3).
+    pub fn meets(&self, other: &Properties) -> bool {
+        let (v, h, s) = (self.v / other.v - 1.0, self.h - other.h, self.s - other.s);
+        v.abs() < 5e-4 && h.abs() < 0.2 && s.abs() < 2e-4
+    }
 }
 
 /// A point (p,T) at which one region's basic equation is evaluated.
@@ -209,7 +220,7 @@ impl Point {
                 (0..in_pi).fold(sum, |sum, _| -sum)
             }
             Region::Two => derivative(&A5, pi, tau - 0.5, in_pi, in_tau),
-            Region::Five => derivative(&A14, pi, tau, in_pi, in_tau),
+            Region::Five => derivative(&R7_38, pi, tau, in_pi, in_tau),
         }
     }
 }
@@ -284,15 +295,27 @@ mod tests {
 
     #[test]
     fn expansion_and_compressibility_are_slopes_of_the_volume() {
-        for (region, p, t) in
-            [(Region::One, 20.0, 400.0), (Region::Two, 5.0, 700.0), (Region::Five, 5.0, 1500.0)]
-        {
+        for (region, p, t) in [
+            (Region::One, 20.0, 400.0),
+            (Region::Two, 5.0, 700.0),
+            (Region::Five, 5.0, 1500.0),
+            (Region::Five, 45.0, 1100.0),
+        ] {
             let point = Point::new(region, p, t);
             let v_at = |p, t| Point::new(region, p, t).v();
             let v_t = (v_at(p, t + 0.01) - v_at(p, t - 0.01)) / 0.02;
             let v_p = (v_at(p + 0.001, t) - v_at(p - 0.001, t)) / 2.0;
             assert!((point.alpha() * point.v() / v_t - 1.0).abs() < 1e-5);
             assert!((-point.kappa() * point.v() / v_p - 1.0).abs() < 1e-5);
+        }
+    }
+
+    #[test]
+    fn region_5_meets_region_2() {
+        for p in [0.000001, 0.1, 1.0, 5.0, 10.0, 15.0, 20.0, 30.0, 40.0, 50.0] {
+            let [here, there] =
+                [Region::Five, Region::Two].map(|region| Point::new(region, p, 1073.15));
+            assert!(here.properties().meets(&there.properties()), "{p}");
         }
     }
 }

@@ -212,7 +212,16 @@ mod tests {
     use crate::basic::Properties;
     use crate::refusals::NOT_FINITE;
 
-    const POINTS: [(f64, f64); 4] = [(20.0, 400.0), (0.5, 600.0), (30.0, 900.0), (5.0, 1500.0)];
+    /// Regions 1 and 2, and region 5 at low and at high pressures.
+    const POINTS: [(f64, f64); 7] = [
+        (20.0, 400.0),
+        (0.5, 600.0),
+        (30.0, 900.0),
+        (5.0, 1500.0),
+        (30.0, 1500.0),
+        (45.0, 1080.0),
+        (49.0, 2200.0),
+    ];
     /// Region 3: liquid and vapour beside saturation, beside B23 and region 1, and at
     /// supercritical pressures.
     const DENSE_POINTS: [(f64, f64); 6] =

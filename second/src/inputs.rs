@@ -3,6 +3,7 @@
 
 mod damage;
 mod dense;
+mod hot;
 mod numbers;
 mod pairs;
 mod papers;
@@ -14,6 +15,7 @@ mod writings;
 use crate::outputs::most_bytes;
 use crate::Program;
 use pairs::Side;
+use papers::Area;
 use random::Random;
 
 /// How an input stands to what its program asks for.
@@ -30,8 +32,8 @@ pub enum Manner {
     Oversized,
     /// Bytes without any meaning.
     Random,
-    /// Rows in region 3 and next to it, for `regions`, `answers` and `quotients`.
-    Dense,
+    /// Rows in one region and next to it, for `regions`, `answers` and `quotients`.
+    About(Area),
     /// One of the two runs of a pair, in which one model does the same; for `replay` alone.
     Pair(Side),
 }
@@ -46,7 +48,8 @@ impl Manner {
             "cut" => Some(Manner::Cut),
             "oversized" => Some(Manner::Oversized),
             "random" => Some(Manner::Random),
-            "dense" if reads_queries(program) => Some(Manner::Dense),
+            "dense" if reads_queries(program) => Some(Manner::About(Area::Dense)),
+            "hot" if reads_queries(program) => Some(Manner::About(Area::Hot)),
             "one" if program == Program::Replay => Some(Manner::Pair(Side::One)),
             "other" if program == Program::Replay => Some(Manner::Pair(Side::Other)),
             _ => None,
@@ -69,8 +72,10 @@ pub fn of(program: Program, seed: u64, count: usize, manner: Manner) -> Vec<u8> 
         Manner::Cut => damage::cut(whole(program, seed, count), &mut random),
         Manner::Oversized => oversized(program, seed, count, &mut random),
         Manner::Random => damage::meaningless(most_bytes(program), &mut random),
-        Manner::Dense if program == Program::Quotients => papers::dense_triples(seed, count),
-        Manner::Dense => papers::dense_queries(seed, count),
+        Manner::About(area) if program == Program::Quotients => {
+            papers::triples_about(area, seed, count)
+        }
+        Manner::About(area) => papers::queries_about(area, seed, count),
         Manner::Pair(side) => pairs::records(seed, count, side),
     }
 }
@@ -163,12 +168,14 @@ mod tests {
     }
 
     #[test]
-    fn dense_sheets_are_for_programs_that_answer_queries() {
-        let named = |program| Manner::named("dense", program);
-        assert_eq!(named(Program::Answers), Some(Manner::Dense));
-        assert!([Program::Replay, Program::Arithmetic, Program::Written]
-            .into_iter()
-            .all(|program| named(program).is_none()));
+    fn sheets_about_a_region_are_for_programs_that_answer_queries() {
+        for (name, area) in [("dense", Area::Dense), ("hot", Area::Hot)] {
+            let named = |program| Manner::named(name, program);
+            assert_eq!(named(Program::Answers), Some(Manner::About(area)));
+            assert!([Program::Replay, Program::Arithmetic, Program::Written]
+                .into_iter()
+                .all(|program| named(program).is_none()));
+        }
     }
 
     #[test]

@@ -1,4 +1,4 @@
-//! The refusal numbers of 01.
+//! The refusal numbers of 01, with 4 and 5 as M-101 and M-100 of 02 have them.
 
 /// A refusal, by its number.
 #[derive(Clone, Copy, Debug, PartialEq, Eq)]
@@ -10,7 +10,7 @@ pub const NOT_FINITE: Refusal = Refusal(1);
 pub const PRESSURE: Refusal = Refusal(2);
 /// T outside 273.15 to 2273.15.
 pub const TEMPERATURE: Refusal = Refusal(3);
-/// T above 1073.15 and p above 10.
+/// T above 1073.15 and p above 50.
 pub const HOT_AND_HIGH: Refusal = Refusal(4);
 /// Region 3, from (p,h) or (p,s).
 pub const REGION_3: Refusal = Refusal(5);

@@ -1,5 +1,5 @@
 //! Which region a query lies in: "Regions from (p,T)" and "Regions from (p,h),
-//! (p,s), (h,s)" of 01.
+//! (p,s), (h,s)" of 01, with region 3 by M-100 and the end of region 5 by M-101 of 02.
 
 use crate::basic::{
     b23_pressure, b23_temperature, saturation_pressure, saturation_temperature, Point, Region,
@@ -22,8 +22,8 @@ pub const T_HIGHEST: f64 = 2273.15;
 pub const P_LOWEST: f64 = 0.000001;
 /// Lowest pressure of the other queries, in MPa.
 pub const P_LOWEST_BACKWARD: f64 = 0.000611213;
-/// Highest pressure of region 5, in MPa.
-pub const P_REGION_5: f64 = 10.0;
+/// Highest pressure of region 5 as R7-97 has it, in MPa.
+pub const P_REGION_5: f64 = 50.0;
 /// Highest pressure, in MPa.
 pub const P_HIGHEST: f64 = 100.0;
 
@@ -154,6 +154,7 @@ fn beside_region_3(quantity: Quantity, p: f64, y: f64) -> Result<Place, Refusal>
 mod tests {
     use super::*;
 
+    /// (10.5,1500) as M-101 of 02 reads it.
     #[test]
     fn marked_points_of_01() {
         assert_eq!(from_pt(f64::NAN, 300.0), Err(NOT_FINITE));
@@ -161,7 +162,7 @@ mod tests {
         assert_eq!(from_pt(100.0, 273.14), Err(TEMPERATURE));
         assert_eq!(from_pt(10.0, 1073.15), Ok(Equation::Gibbs(Region::Two)));
         assert_eq!(from_pt(10.0, 1500.0), Ok(Equation::Gibbs(Region::Five)));
-        assert_eq!(from_pt(10.5, 1500.0), Err(HOT_AND_HIGH));
+        assert_eq!(from_pt(10.5, 1500.0), Ok(Equation::Gibbs(Region::Five)));
         assert_eq!(from_pt(100.5, 200.0), Err(PRESSURE));
         assert_eq!(from_pt(100.0, 900.0), Ok(Equation::Gibbs(Region::Two)));
     }
@@ -181,6 +182,22 @@ mod tests {
         assert_eq!(from_pt(50.0, T_13), Ok(Equation::Gibbs(Region::One)));
         assert_eq!(from_pt(50.0, T_13.next_up()), Ok(Equation::Helmholtz));
         assert_eq!(from_pt(P_LOWEST, T_HIGHEST), Ok(Equation::Gibbs(Region::Five)));
+    }
+
+    #[test]
+    fn region_5_ends_at_50_mpa_and_begins_behind_1073_15_k() {
+        for t in [T_25.next_up(), 1500.0, T_HIGHEST] {
+            for p in [10.0_f64.next_up(), 50.0_f64.next_down(), 50.0] {
+                assert_eq!(from_pt(p, t), Ok(Equation::Gibbs(Region::Five)));
+            }
+            assert_eq!(from_pt(50.0_f64.next_up(), t), Err(HOT_AND_HIGH));
+            assert_eq!(from_pt(100.0, t), Err(HOT_AND_HIGH));
+            assert_eq!(from_pt(100.0_f64.next_up(), t), Err(PRESSURE));
+        }
+        for p in [50.0, 50.0_f64.next_up(), 100.0] {
+            assert_eq!(from_pt(p, T_25), Ok(Equation::Gibbs(Region::Two)));
+            assert_eq!(from_pt(p, T_HIGHEST.next_up()), Err(TEMPERATURE));
+        }
     }
 
     #[test]

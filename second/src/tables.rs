@@ -1,6 +1,9 @@
 //! The coefficient tables of documents 002 (A1 to A27) and 003 (2 to 8), in table
 //! order, each coefficient as its printed decimal. A term is (I, J, n).
 //! Where the papers' text is damaged, the published IAPWS releases decide.
+//!
+//! Those of region 5 are of R7-97 (37 and 38), as M-101 of 02 asks: IAPWS R7-97(2012), the
+//! release of 1997 as revised in 2007. They stand in the place of 002's A13 and A14.
 
 /// One term n · Aᴵ · Bᴶ of a sum, as (I, J, n).
 pub type Term = (i32, i32, f64);
@@ -170,8 +173,8 @@ pub const A11: [f64; 10] = [
     0.65017534844798e3,
 ];
 
-/// Table A13: ideal-gas part of region 5, Eq. (30); every I is 0.
-pub const A13: [Term; 6] = [
+/// Table 37 of R7-97: ideal-gas part of region 5, in the form of Eq. (30); every I is 0.
+pub const R7_37: [Term; 6] = [
     (0, 0, -0.13179983674201e2),
     (0, 1, 0.68540841634434e1),
     (0, -3, -0.24805148933466e-1),
@@ -180,13 +183,14 @@ pub const A13: [Term; 6] = [
     (0, 2, -0.32961626538917),
 ];
 
-/// Table A14: residual part of region 5, Eq. (31).
-pub const A14: [Term; 5] = [
-    (1, 0, -0.12563183589592e-3),
-    (1, 1, 0.21774678714571e-2),
-    (1, 3, -0.45942820899910e-2),
-    (2, 9, -0.39724828359569e-5),
-    (3, 3, 0.12919228289784e-6),
+/// Table 38 of R7-97: residual part of region 5, in the form of Eq. (31).
+pub const R7_38: [Term; 6] = [
+    (1, 1, 0.15736404855259e-2),
+    (1, 2, 0.90153761673944e-3),
+    (1, 3, -0.50270077677648e-2),
+    (2, 3, 0.22440037409485e-5),
+    (2, 9, -0.41163275453471e-5),
+    (3, 7, 0.37919454822955e-7),
 ];
 
 /// Table A16: T(p,h) of region 1, Eq. (37).

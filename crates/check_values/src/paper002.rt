@@ -1,16 +1,18 @@
-// The check values of 002, table by table: regions 1, 2, 3 and 5, the saturation line, the boundaries
-// B23 and 2bc, and T(p,h) and T(p,s). Tables A24 and A28 have lost the exponents of their powers of
-// ten: in region 2 only 10^4 fits digits that begin with 1, and only 10^3 all others.
+// The check values of 002, table by table: regions 1, 2 and 3, the saturation line, the boundaries B23 and
+// 2bc, and T(p,h) and T(p,s); in the place of its region 5 stands that of R7-97. Tables A24 and A28 have lost
+// the exponents of their powers of ten: in region 2 only 10^4 fits digits that begin with 1, and only 10^3 all
+// others.
 use crate::decimals::print_byte;
+use crate::quantities::Point;
+use crate::quantities::six;
+use crate::revised::table42;
 use crate::tally::Tally;
 use backward::t1_ph;
 use backward::t1_ps;
 use backward::t2_ph;
 use backward::t2_ps;
 use dense::Region3;
-use hot::Region5;
 use liquid::Region1;
-use properties::State;
 use saturation::p_2bc;
 use saturation::p_b23;
 use saturation::ps;
@@ -25,54 +27,13 @@ pub(crate) fn tables(mut tally: Tally) -> Tally {
     tally = a6(tally);
     tally = a10(tally);
     tally = a12(tally);
-    tally = a15(tally);
+    tally = table42(tally);
     tally = a17(tally);
     tally = a19(tally);
     tally = a20(tally);
     tally = a24(tally);
     tally = a28(tally);
     a29(tally)
-}
-
-// The six quantities of a state in a table's order. The first is v, or p where the density is given.
-struct Point {
-    first: f64,
-    h: f64,
-    u: f64,
-    s: f64,
-    cp: f64,
-    w: f64,
-}
-
-// Their lines at x and y, where the state is a. A letter stands for the name of each.
-fn six(
-    mut tally: Tally,
-    table: u64,
-    name: u8,
-    first: f64,
-    a: State,
-    x: f64,
-    y: f64,
-    printed: Point,
-) -> Tally {
-    tally = one(tally, table, name, x, y, first, printed.first);
-    tally = one(tally, table, b'h', x, y, a.h, printed.h);
-    tally = one(tally, table, b'u', x, y, a.u, printed.u);
-    tally = one(tally, table, b's', x, y, a.s, printed.s);
-    tally = one(tally, table, b'c', x, y, a.cp, printed.cp);
-    one(tally, table, b'w', x, y, a.w, printed.w)
-}
-
-// The line of one of them; cp alone has a second letter.
-fn one(tally: Tally, table: u64, name: u8, x: f64, y: f64, computed: f64, printed: f64) -> Tally {
-    io::write_all(1, b"002-A");
-    io::print_decimal(1, table);
-    print_byte(b' ');
-    print_byte(name);
-    if name == b'c' {
-        print_byte(b'p');
-    }
-    tally.at(x, y, computed, printed)
 }
 
 // Table A1, footnote: the boundary B23, both ways.
@@ -126,7 +87,7 @@ fn a3(mut tally: Tally) -> Tally {
 
 fn region1(tally: Tally, p: f64, t: f64, printed: Point) -> Tally {
     let a = Region1::state(p, t);
-    six(tally, 3, b'v', a.v, a, p, t, printed)
+    six(tally, b"002-A3", b'v', a.v, a, p, t, printed)
 }
 
 // Table A6: region 2.
@@ -174,7 +135,7 @@ fn a6(mut tally: Tally) -> Tally {
 
 fn region2(tally: Tally, p: f64, t: f64, printed: Point) -> Tally {
     let a = Region2::state(p, t);
-    six(tally, 6, b'v', a.v, a, p, t, printed)
+    six(tally, b"002-A6", b'v', a.v, a, p, t, printed)
 }
 
 // Table A10: region 3.
@@ -224,7 +185,7 @@ fn region3(tally: Tally, density: f64, t: f64, printed: Point) -> Tally {
     let a = Region3::state(density, t);
     six(
         tally,
-        10,
+        b"002-A10",
         b'p',
         Region3::pressure(density, t),
         a,
@@ -240,54 +201,6 @@ fn a12(mut tally: Tally) -> Tally {
     tally = tally.line(name, 300.0, ps(300.0), 0.353658941e-2);
     tally = tally.line(name, 500.0, ps(500.0), 0.263889776e1);
     tally.line(name, 600.0, ps(600.0), 0.123443146e2)
-}
-
-// Table A15: region 5.
-fn a15(mut tally: Tally) -> Tally {
-    tally = region5(
-        tally,
-        0.5,
-        1500.0,
-        Point {
-            first: 0.138455354e1,
-            h: 0.521976332e4,
-            u: 0.452748654e4,
-            s: 0.965408431e1,
-            cp: 0.261610228e1,
-            w: 0.917071933e3,
-        },
-    );
-    tally = region5(
-        tally,
-        8.0,
-        1500.0,
-        Point {
-            first: 0.865156616e-1,
-            h: 0.520609634e4,
-            u: 0.451397105e4,
-            s: 0.836546724e1,
-            cp: 0.264453866e1,
-            w: 0.919708859e3,
-        },
-    );
-    region5(
-        tally,
-        8.0,
-        2000.0,
-        Point {
-            first: 0.115743146,
-            h: 0.658380291e4,
-            u: 0.565785774e4,
-            s: 0.915671044e1,
-            cp: 0.285306750e1,
-            w: 0.105435806e4,
-        },
-    )
-}
-
-fn region5(tally: Tally, p: f64, t: f64, printed: Point) -> Tally {
-    let a = Region5::state(p, t);
-    six(tally, 15, b'v', a.v, a, p, t, printed)
 }
 
 // Table A17: T(p,h) of region 1.

@@ -1,4 +1,4 @@
--- Region 5, vapour above 1073.15 K: 002, Eqs. (29) to (31), Tables A13 and A14; the formulas are those of `vapour`. Definitions only.
+-- Region 5, vapour above 1073.15 K, as revised in 2007: R7-97, Eqs. (32) to (34), Tables 37 and 38; the formulas are those of `vapour`. Definitions only.
 use mathlib.Core.Bool.{false}
 use mathlib.Core.List.{List, [], _∷_}
 use lib.IntN.{pos}
@@ -15,7 +15,7 @@ use Rattle.properties.specs.declared.Response.{Response}
 use Rattle.properties.specs.declared.Point.{Point}
 use Rattle.vapour.specs.declared.Vapour.{Vapour}
 
--- Table A13: J°, n° behind an I of 0, since the ideal-gas part has no power of π
+-- Table 37: J°, n° behind an I of 0, since the ideal-gas part has no power of π
 unfoldable pub ideal5 : List Term
 ideal5 =
     row (pos 0) (pos 0) (minus 13179983674201 (pos 2))
@@ -26,25 +26,26 @@ ideal5 =
     ∷ row (pos 0) (pos 2) (minus 32961626538917 (pos 0))
     ∷ []
 
--- Table A14: I, J, n
+-- Table 38: I, J, n
 unfoldable pub residual5 : List Term
 residual5 =
-    row (pos 1) (pos 0) (minus 12563183589592 (less 3))
-    ∷ row (pos 1) (pos 1) (plus 21774678714571 (less 2))
-    ∷ row (pos 1) (pos 3) (minus 45942820899910 (less 2))
-    ∷ row (pos 2) (pos 9) (minus 39724828359569 (less 5))
-    ∷ row (pos 3) (pos 3) (plus 12919228289784 (less 6))
+    row (pos 1) (pos 1) (plus 15736404855259 (less 2))
+    ∷ row (pos 1) (pos 2) (plus 90153761673944 (less 3))
+    ∷ row (pos 1) (pos 3) (minus 50270077677648 (less 2))
+    ∷ row (pos 2) (pos 3) (plus 22440037409485 (less 5))
+    ∷ row (pos 2) (pos 9) (minus 41163275453471 (less 5))
+    ∷ row (pos 3) (pos 7) (plus 37919454822955 (less 7))
     ∷ []
 
 -- R = 0.461526 kJ/(kg K), p* = 1 MPa, T* = 1000 K
 unfoldable pub point5 : Float → Float → Point
 point5 p t = reducedBy (printed false 461526 (less 6)) (f64 1) (f64 1000) p t
 
--- Eqs. (29) to (31): the residual part is summed at π and τ, with no shift.
+-- Eqs. (32) to (34): the residual part is summed at π and τ, with no shift.
 unfoldable pub gamma5 : Float → Float → Vapour
 gamma5 p t = vapourAt ideal5 residual5 (λ τ. τ) (point5 p t)
 
--- Table 4
+-- 002, Table 4
 unfoldable pub unrootedOf5 : Float → Float → Vapour → Unrooted
 unrootedOf5 p t γ = vapourUnrooted (point5 p t) γ
 

@@ -1,5 +1,5 @@
-// Region 5, vapour above 1073.15 K: 002, Eqs. (29) to (31), Tables A13 and A14
-// (specs/Region5.antt). The formulas are those of crate vapour.
+// Region 5, vapour above 1073.15 K: R7-97, Eqs. (32) to (34), Tables 37 and 38 (specs/Region5.antt). The
+// formulas are those of crate vapour.
 use properties::Point;
 use properties::Response;
 use properties::State;
@@ -32,19 +32,20 @@ const IDEAL_N: [f64; 6] = [
     -0.32961626538917,
 ];
 
-const RESIDUAL_I: [i8; 5] = [1, 1, 1, 2, 3];
+const RESIDUAL_I: [i8; 6] = [1, 1, 1, 2, 2, 3];
 
-const RESIDUAL_J: [i8; 5] = [0, 1, 3, 9, 3];
+const RESIDUAL_J: [i8; 6] = [1, 2, 3, 3, 9, 7];
 
-const RESIDUAL_N: [f64; 5] = [
-    -0.12563183589592e-3,
-    0.21774678714571e-2,
-    -0.45942820899910e-2,
-    -0.39724828359569e-5,
-    0.12919228289784e-6,
+const RESIDUAL_N: [f64; 6] = [
+    0.15736404855259e-2,
+    0.90153761673944e-3,
+    -0.50270077677648e-2,
+    0.22440037409485e-5,
+    -0.41163275453471e-5,
+    0.37919454822955e-7,
 ];
 
-// Vapour from 1073.15 K to 2273.15 K, up to 10 MPa.
+// Vapour from 1073.15 K to 2273.15 K, up to 50 MPa.
 pub struct Region5 {}
 
 impl Region5 {

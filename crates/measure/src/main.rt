@@ -6,6 +6,7 @@ use dense::Region3;
 use desk::Answer as Answered;
 use desk::Desk;
 use desk::Outcome;
+use hot::Region5;
 use liquid::Region1;
 use properties::State;
 use reply::Answer;
@@ -111,26 +112,28 @@ fn run(operation: u8, n: usize) -> f64 {
     sum
 }
 
-// The value of an operation in region 3 at x.
-fn dense_worked(operation: u8, x: f64) -> f64 {
+// The value of an operation in region 3 or 5 at x.
+fn beyond_worked(operation: u8, x: f64) -> f64 {
     match operation {
         b'3' => sum_of(Region3::state(400.0 + 10.0 * x, 650.0 + 5.0 * x)),
         b'g' => dense::density(30.0 + x, 640.0 + 5.0 * x),
         b'L' => answered(sums::from_pt(30.0 + x, 640.0 + 5.0 * x)),
         b'M' => derived(sums::quotient(1, 30.0 + x, 640.0 + 5.0 * x, 3, 2, 1)),
         b'N' => derived(some_quotient(x, 1, 30.0 + x, 640.0 + 5.0 * x)),
+        b'5' => sum_of(Region5::state(30.0 + x, 1200.0 + 10.0 * x)),
+        b'R' => answered(sums::from_pt(30.0 + x, 1200.0 + 10.0 * x)),
         _ => x,
     }
 }
 
 // The sum of n of these, in a loop of their own, so that the loop alone passes by no more letters than
-// an operation outside region 3.
-fn run_dense(operation: u8, n: usize) -> f64 {
+// an operation in region 1 or 2.
+fn run_beyond(operation: u8, n: usize) -> f64 {
     let mut x = 0.0371;
     let mut sum = 0.0;
     let mut k = 0usize;
     while k < n {
-        sum = sum + dense_worked(operation, x);
+        sum = sum + beyond_worked(operation, x);
         x = x * 1.05;
         k += 1;
     }
@@ -310,7 +313,7 @@ fn measured(operation: u8, n: usize) -> f64 {
         b'V' => run_withdraws(n),
         b'O' => run_posts(n),
         b'K' => run_collects(n),
-        b'3' | b'g' | b'L' | b'M' | b'N' => run_dense(operation, n),
+        b'3' | b'g' | b'L' | b'M' | b'N' | b'5' | b'R' => run_beyond(operation, n),
         _ => run(operation, n),
     }
 }

@@ -51,7 +51,7 @@ abbrev pub pMost : Float
 pMost = f64 100
 
 abbrev pub pMost5 : Float
-pMost5 = f64 10
+pMost5 = f64 50
 
 -- P = ps(623.15), where the saturation line meets region 3
 unfoldable pub pEnd : Float

@@ -23,7 +23,7 @@ pub const P_TRIPLE: f64 = 0.000611213;
 
 pub(crate) const P_MOST: f64 = 100.0;
 
-pub(crate) const P_MOST_5: f64 = 10.0;
+pub(crate) const P_MOST_5: f64 = 50.0;
 
 // Whether p is at most P = ps(623.15), where the saturation line meets region 3.
 pub(crate) fn saturates(p: f64) -> bool

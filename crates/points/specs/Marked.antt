@@ -1,4 +1,4 @@
--- The marked points of document 01: what is asked, and what it must read. `proofs/Settled.antt` settles them by one statement. Definitions only.
+-- The marked points of document 01, as 02 changes them: what is asked, and what it must read. `proofs/Settled.antt` settles them by one statement. Definitions only.
 use Prim.Native.Nat.{ℕ}
 use mathlib.Core.Bool.{false}
 use mathlib.Core.List.{List, [], _∷_}
@@ -57,7 +57,7 @@ marked =
     ∷ state (f64 100) (hundredths 27314) reads refused 3
     ∷ state (f64 10) (hundredths 107315) reads region 2
     ∷ state (f64 10) (f64 1500) reads region 5
-    ∷ state (tenths 105) (f64 1500) reads refused 4
+    ∷ state (tenths 105) (f64 1500) reads region 5
     ∷ state (tenths 1005) (f64 200) reads refused 2
     ∷ state (f64 100) (f64 900) reads region 2
     ∷ subregion (f64 2800) (tenths 58) reads lies C

@@ -1,5 +1,6 @@
--- The definitions give the numbers that 002 prints to check a program by: one point of each of its Tables A3, A6, A10 and A15, and the pressure P = ps(623.15) at
--- which regions 1, 2 and 3 meet. The f64 beside each property agrees with the printed value in all its nine digits. Shown by computing. Assumes nothing.
+-- The definitions give the numbers that the papers print to check a program by: one point of each of Tables A3, A6 and A10 of 002 and of Table 42 of R7-97, and the
+-- pressure P = ps(623.15) at which regions 1, 2 and 3 meet. The f64 beside each property agrees with the printed value in all its nine digits. Shown by computing.
+-- Assumes nothing.
 use mathlib.Core.Path.{_≡_, refl}
 use mathlib.Core.Bool.{false}
 use lib.Ieee.{binary64, round, add, sub, mul, div, neg, ofInt, ofBits}
@@ -59,14 +60,14 @@ pub pressure-3 : pressure3 (f64 500) (f64 650) ≡ ofBits binary64 0x4039_956d_7
 unfolding pressureOf3 phi3 phiOf3 point3 table3 sixOf sumOf sumFrom plus term gone scaled powerOf raised add sub mul div neg round ofInt ofBits printed
 pressure-3 = refl
 
--- Table A15: p = 8 MPa, T = 2000 K
-pub region-5 : state5 (f64 8) (f64 2000) ≡ record {
-  v = ofBits binary64 0x3fbd_a157_c118_2017;
-  u = ofBits binary64 0x40b6_19db_94e2_0494;
-  h = ofBits binary64 0x40b9_b7cd_8b34_367e;
-  s = ofBits binary64 0x4022_503c_59e4_f49a;
-  cp = ofBits binary64 0x4006_d315_0d79_c4e7;
-  w = ofBits binary64 0x4090_796e_a689_b2f3;
+-- R7-97, Table 42: p = 30 MPa, T = 2000 K
+pub region-5 : state5 (f64 30) (f64 2000) ≡ record {
+  v = ofBits binary64 0x3f9f_e2c6_d44e_c9c4;
+  u = ofBits binary64 0x40b6_0512_0496_c5c0;
+  h = ofBits binary64 0x40b9_ab39_ddaa_b9ff;
+  s = ofBits binary64 0x4021_12a3_b4da_4856;
+  cp = ofBits binary64 0x4007_15e9_4326_27da;
+  w = ofBits binary64 0x4090_ad7a_58a5_066c;
 }
 unfolding state5 stateOf5 rootedOf unrootedOf5 gamma5 point5 ideal5 residual5 vapourUnrooted vapourOf unrootedOf sixOf sumOf sumFrom plus term gone scaled powerOf raised logOf logUnits partsOf partsAt logSum series ln2 add sub mul div neg round ofInt ofBits printed rootOf rootUnits nearRoot floorRoot
 region-5 = refl

@@ -43,22 +43,13 @@ pub fn any(random: &mut Random) -> Query {
     (1, p, t)
 }
 
-/// A number, one of the two next to it, or one off by 10⁻⁹ to `most` to either side.
-fn near(random: &mut Random, x: f64, most: f64) -> f64 {
-    match random.below(4) {
-        0 => random.next_to(x),
-        1 => x - random.log_between(1e-9, most),
-        _ => x + random.log_between(1e-9, most),
-    }
-}
-
 /// A pressure next to ps(T), T anywhere from 623.15 K to the critical temperature.
 fn near_saturation(random: &mut Random) -> (f64, f64) {
     let t = match random.below(3) {
         0 => T_CRITICAL - random.log_between(1e-9, 1.0),
         _ => random.between(T_13, T_CRITICAL),
     };
-    (near(random, saturation_pressure(t), 1e-2), t)
+    (random.near(saturation_pressure(t), 1e-2), t)
 }
 
 /// So little below the critical temperature and below ps(T) that some of these have no
@@ -73,22 +64,21 @@ fn near_the_end_of_saturation(random: &mut Random) -> (f64, f64) {
 fn near_b23(random: &mut Random) -> (f64, f64) {
     if random.below(2) == 0 {
         let t = random.between(T_13, T_B23);
-        (near(random, b23_pressure(t), 1e-2), t)
+        (random.near(b23_pressure(t), 1e-2), t)
     } else {
         let p = random.between(highest_saturation_pressure(), P_HIGHEST);
-        let t = b23_temperature(p);
-        (p, t - (near(random, t, 1e-2) - t))
+        (p, random.near(b23_temperature(p), -1e-2))
     }
 }
 
 fn near_the_critical_point(random: &mut Random) -> (f64, f64) {
-    (near(random, P_CRITICAL, 0.1), near(random, T_CRITICAL, 0.1))
+    (random.near(P_CRITICAL, 0.1), random.near(T_CRITICAL, 0.1))
 }
 
 /// T next to 623.15 K or to the critical temperature, with any pressure of the region.
 fn near_an_end_in_temperature(random: &mut Random) -> (f64, f64) {
     let t = random.pick(&[T_13, T_CRITICAL, T_CRITICAL]);
-    let t = near(random, t, 1e-2);
+    let t = random.near(t, 1e-2);
     (pressure(random, t), t)
 }
 
@@ -111,36 +101,15 @@ fn pressure(random: &mut Random, t: f64) -> f64 {
 
 #[cfg(test)]
 mod tests {
+    use super::super::points::{in_region, many};
     use super::*;
     use crate::answers::{answer, Answer};
-    use crate::regions::Equation;
-
-    /// The (p,T) of those queries that have a state of region 3.
-    fn in_region_3(queries: impl Iterator<Item = Query>) -> Vec<(f64, f64)> {
-        let dense = |&(kind, p, t): &Query| {
-            let Ok(Answer::Single { state, .. }) = answer(kind, p, t) else { return false };
-            state.equation == Equation::Helmholtz
-        };
-        queries.filter(dense).map(|(_, p, t)| (p, t)).collect()
-    }
-
-    #[test]
-    fn most_queries_lie_in_region_3() {
-        let mut random = Random::new(5);
-        let found = in_region_3((0..4000).map(|_| any(&mut random)));
-        assert!(found.len() > 3400, "{}", found.len());
-        let (ties, all) = (in_region_3(ties().into_iter()).len(), ties().len());
-        assert!(2 * ties > all, "{ties} of {all}");
-    }
 
     #[test]
     fn queries_come_close_to_every_border_from_region_3() {
         let mut random = Random::new(6);
-        let found = in_region_3((0..4000).map(|_| any(&mut random)));
-        let many = |what: &str, test: &dyn Fn(f64, f64) -> bool| {
-            let count = found.iter().filter(|&&(p, t)| test(p, t)).count();
-            assert!(count >= 10, "{what}: {count}");
-        };
+        let found = in_region(3, (0..4000).map(|_| any(&mut random)));
+        let many = |what: &str, test: &dyn Fn(f64, f64) -> bool| many(&found, what, test);
         let off = |p: f64, t| p - saturation_pressure(t);
         let above = |p: f64, t| p - b23_pressure(t);
         many("at ps", &|p, t| t < T_CRITICAL && around(saturation_pressure(t)).contains(&p));

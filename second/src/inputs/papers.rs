@@ -1,9 +1,35 @@
 //! Sheets of queries for `regions`, `answers` and `quotients`.
 
-use super::dense;
 use super::points::{any, ties, Query};
 use super::random::Random;
+use super::{dense, hot};
 use crate::sheets::{write, NOTE, ROWS, TRAILER};
+
+/// A region that has sheets of its own, whose queries lie in it and next to it.
+#[derive(Clone, Copy, Debug, PartialEq, Eq)]
+pub enum Area {
+    /// Region 3.
+    Dense,
+    /// Region 5.
+    Hot,
+}
+
+impl Area {
+    fn ties(self) -> Vec<Query> {
+        match self {
+            Area::Dense => dense::ties(),
+            Area::Hot => hot::ties(),
+        }
+    }
+
+    /// How a query there is drawn.
+    fn any(self) -> fn(&mut Random) -> Query {
+        match self {
+            Area::Dense => dense::any,
+            Area::Hot => hot::any,
+        }
+    }
+}
 
 /// A sheet of `count` queries, at most 1,000, with some note. A quarter of the rows are
 /// ties; sheets of consecutive seeds go through all of them.
@@ -21,21 +47,21 @@ pub fn triples(seed: u64, count: usize) -> Vec<u8> {
     sheet(&note, &rows(&ties(), any, seed, count, count / 2, &mut random))
 }
 
-/// A sheet of `count` queries in region 3 and next to it, a quarter of them ties, without
-/// a note.
-pub fn dense_queries(seed: u64, count: usize) -> Vec<u8> {
+/// A sheet of `count` queries in a region and next to it, a quarter of them ties, without a
+/// note.
+pub fn queries_about(area: Area, seed: u64, count: usize) -> Vec<u8> {
     let mut random = Random::new(seed);
-    sheet(&[], &rows(&dense::ties(), dense::any, seed, count, count / 4, &mut random))
+    sheet(&[], &rows(&area.ties(), area.any(), seed, count, count / 4, &mut random))
 }
 
-/// A sheet of `count` queries in region 3 and next to it, half of them ties, whose note
+/// A sheet of `count` queries in a region and next to it, half of them ties, whose note
 /// holds 8 triples of property numbers: those of one z and x. Sixty-four consecutive seeds
 /// go through all.
-pub fn dense_triples(seed: u64, count: usize) -> Vec<u8> {
+pub fn triples_about(area: Area, seed: u64, count: usize) -> Vec<u8> {
     let mut random = Random::new(seed);
     let first = seed.wrapping_mul(8);
     let note: Vec<u8> = (0..8).flat_map(|step| triple(first.wrapping_add(step))).collect();
-    sheet(&note, &rows(&dense::ties(), dense::any, seed, count, count / 2, &mut random))
+    sheet(&note, &rows(&area.ties(), area.any(), seed, count, count / 2, &mut random))
 }
 
 /// The triple of property numbers of an index; there are 512.
@@ -114,6 +140,7 @@ fn append(bytes: &mut Vec<u8>, (kind, first, second): Query) {
 
 #[cfg(test)]
 mod tests {
+    use super::super::points::in_region;
     use super::*;
     use crate::sheets::read;
     use std::collections::BTreeSet;
@@ -130,18 +157,32 @@ mod tests {
     }
 
     #[test]
-    fn dense_sheets_go_through_all_ties_and_triples() {
-        let (mut rows, mut triples) = (BTreeSet::new(), BTreeSet::new());
-        for seed in 1..=64 {
-            let sheet = dense_triples(seed, 16);
-            let sheet = read(&sheet).unwrap();
-            assert_eq!((sheet.note.len(), sheet.rows().count()), (24, 16));
-            rows.extend(sheet.rows().map(|(_, p, t)| (p.to_bits(), t.to_bits())));
-            triples.extend(sheet.note.chunks_exact(3).map(<[u8]>::to_vec));
+    fn sheets_about_a_region_go_through_all_ties_and_triples() {
+        for (area, count) in [(Area::Dense, 16), (Area::Hot, 8)] {
+            let (mut rows, mut triples) = (BTreeSet::new(), BTreeSet::new());
+            for seed in 1..=64 {
+                let sheet = triples_about(area, seed, count);
+                let sheet = read(&sheet).unwrap();
+                assert_eq!((sheet.note.len(), sheet.rows().count()), (24, count));
+                rows.extend(sheet.rows().map(|(_, p, t)| (p.to_bits(), t.to_bits())));
+                triples.extend(sheet.note.chunks_exact(3).map(<[u8]>::to_vec));
+            }
+            let ties = area.ties();
+            assert!(ties.iter().all(|(_, p, t)| rows.contains(&(p.to_bits(), t.to_bits()))));
+            assert_eq!(triples.len(), 512);
+            assert_eq!(read(&queries_about(area, 1, 1000)).unwrap().rows().count(), 1000);
         }
-        assert!(dense::ties().iter().all(|(_, p, t)| rows.contains(&(p.to_bits(), t.to_bits()))));
-        assert_eq!(triples.len(), 512);
-        assert_eq!(read(&dense_queries(1, 1000)).unwrap().rows().count(), 1000);
+    }
+
+    #[test]
+    fn most_queries_about_a_region_lie_in_it() {
+        for (area, region, most) in [(Area::Dense, 3, 3400), (Area::Hot, 5, 3000)] {
+            let mut random = Random::new(5);
+            let found = in_region(region, (0..4000).map(|_| area.any()(&mut random)));
+            assert!(found.len() > most, "{}", found.len());
+            let (ties, all) = (in_region(region, area.ties().into_iter()).len(), area.ties().len());
+            assert!(2 * ties > all, "{ties} of {all}");
+        }
     }
 
     #[test]

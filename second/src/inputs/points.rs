@@ -353,6 +353,20 @@ fn state(random: &mut Random) -> (f64, f64) {
     (point.h(), point.s())
 }
 
+/// The (p,T) of those queries that have a state in a region.
+#[cfg(test)]
+pub fn in_region(region: u64, queries: impl Iterator<Item = Query>) -> Vec<(f64, f64)> {
+    let lies_there = |&query: &Query| matches!(outcome(query), (0, number, _) if number == region);
+    queries.filter(lies_there).map(|(_, p, t)| (p, t)).collect()
+}
+
+/// Ten of the points or more pass a test.
+#[cfg(test)]
+pub fn many(points: &[(f64, f64)], what: &str, test: &dyn Fn(f64, f64) -> bool) {
+    let count = points.iter().filter(|&&(p, t)| test(p, t)).count();
+    assert!(count >= 10, "{what}: {count}");
+}
+
 #[cfg(test)]
 mod tests {
     use super::*;

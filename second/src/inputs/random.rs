@@ -59,6 +59,16 @@ impl Random {
         self.pick(&[x.next_down(), x, x.next_up()])
     }
 
+    /// The number itself, one of the two next to it, or one off by 10⁻⁹ to |far|; of these
+    /// two in three lie to the side that the sign of `far` says.
+    pub fn near(&mut self, x: f64, far: f64) -> f64 {
+        match self.below(4) {
+            0 => self.next_to(x),
+            1 => x - self.log_between(1e-9, far.abs()).copysign(far),
+            _ => x + self.log_between(1e-9, far.abs()).copysign(far),
+        }
+    }
+
     /// A number with any bits whatever; one in four is infinite or a NaN, one in four
     /// zero or subnormal.
     pub fn any(&mut self) -> f64 {
@@ -83,6 +93,15 @@ mod tests {
         let mut random = Random::new(0);
         assert_eq!(random.bits(), 0xe220_a839_7b1d_cdaf);
         assert_eq!(random.bits(), 0x6e78_9e6a_a1b9_65f4);
+    }
+
+    #[test]
+    fn more_of_the_numbers_near_another_lie_to_the_side_asked_for() {
+        let mut random = Random::new(2);
+        let near: Vec<f64> = (0..1200).map(|_| random.near(50.0, -0.01)).collect();
+        assert!(near.iter().all(|x| (x - 50.0).abs() < 0.0101));
+        let below = near.iter().filter(|&&x| x < 50.0).count();
+        assert!((650..750).contains(&below), "{below}");
     }
 
     #[test]

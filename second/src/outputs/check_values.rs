@@ -1,20 +1,20 @@
-//! The listing of the program `check_values`: every check value that 002 and 003
-//! print for the equations in use, beside the value computed.
+//! The listing of the program `check_values`: every check value that 002, 003 and, of
+//! region 5, R7-97 print for the equations in use, beside the value computed.
 //!
 //! A line has four fields with one space between:
 //!
 //!     TABLE QUANTITY(ARGUMENTS) PRINTED COMPUTED
 //!
-//! TABLE is the document, a hyphen and its table (002-A3, 003-9); the value of h2ab
-//! stands beside 003's Table 5. ARGUMENTS are the printed decimals, a comma between
+//! TABLE is the document, a hyphen and its table (002-A3, R7-97-42, 003-9); the value of
+//! h2ab stands beside 003's Table 5. ARGUMENTS are the printed decimals, a comma between
 //! two and no space: (p,T), (ρ,T), (p,h), (p,s), (h,s), (T), (p), (h) or (s). Both numbers
 //! are written 0.DIGITSEk, the value being 0.DIGITS · 10ᵏ with a first digit that is
-//! not 0, DIGITS as many as the paper prints (9 in 002, 10 in 003), and k in decimal
+//! not 0, DIGITS as many as the paper prints (10 in 003, else 9), and k in decimal
 //! with `-` before it if negative and no sign otherwise; no value is negative.
 //! COMPUTED is the exact binary value rounded to that many digits, ties to even.
-//! Tables come in the order of the papers, points in the order of a table's columns
-//! or rows, a point's properties in the order v, h, u, s, cp, w; in 002-A10, whose points
-//! are (ρ,T), p stands in the place of v. The last line is
+//! Tables come in the order of the papers, R7-97's in the place of 002's A15; points in the
+//! order of a table's columns or rows; a point's properties in the order v, h, u, s, cp, w;
+//! in 002-A10, whose points are (ρ,T), p stands in the place of v. The last line is
 //! `M of N check values agree`: M lines have PRINTED and COMPUTED alike.
 
 use crate::backward::{p1_hs, p2_hs, t1_ph, t1_ps, t2_ph, t2_ps, Subregion};
@@ -70,7 +70,7 @@ fn checks() -> Vec<Check> {
     all.extend(property_table("002-A6", Region::Two, &A6));
     all.extend(dense_table("002-A10", &A10));
     all.extend(A12.map(|(t, ps)| of_one("002-A12", "ps", saturation_pressure, t, ps)));
-    all.extend(property_table("002-A15", Region::Five, &A15));
+    all.extend(property_table("R7-97-42", Region::Five, &R7_42));
     all.extend(A17.map(|row| of_two("002-A17", "T1", t1_ph, row)));
     all.extend(A19.map(|row| of_two("002-A19", "T1", t1_ps, row)));
     all.push(of_one("002-A20", "p2bc", b2bc_pressure, "3516.004323", "0.100000000E3"));
@@ -186,10 +186,10 @@ const A10: [Column; 3] = [
 ];
 
 #[rustfmt::skip]
-const A15: [Column; 3] = [
-    ("0.5", "1500", ["0.138455354E1", "0.521976332E4", "0.452748654E4", "0.965408431E1", "0.261610228E1", "0.917071933E3"]),
-    ("8", "1500", ["0.865156616E-1", "0.520609634E4", "0.451397105E4", "0.836546724E1", "0.264453866E1", "0.919708859E3"]),
-    ("8", "2000", ["0.115743146E0", "0.658380291E4", "0.565785774E4", "0.915671044E1", "0.285306750E1", "0.105435806E4"]),
+const R7_42: [Column; 3] = [
+    ("0.5", "1500", ["0.138455090E1", "0.521976855E4", "0.452749310E4", "0.965408875E1", "0.261609445E1", "0.917068690E3"]),
+    ("30", "1500", ["0.230761299E-1", "0.516723514E4", "0.447495124E4", "0.772970133E1", "0.272724317E1", "0.928548002E3"]),
+    ("30", "2000", ["0.311385219E-1", "0.657122604E4", "0.563707038E4", "0.853640523E1", "0.288569882E1", "0.106736948E4"]),
 ];
 
 const A12: [(&str, &str); 3] =
@@ -264,11 +264,11 @@ mod tests {
     }
 
     #[test]
-    fn basic_equations_meet_a3_a6_a10_a15() {
+    fn basic_equations_meet_a3_a6_a10_and_r7_97() {
         agree("002-A3", 18);
         agree("002-A6", 18);
         agree("002-A10", 18);
-        agree("002-A15", 18);
+        agree("R7-97-42", 18);
     }
 
     #[test]

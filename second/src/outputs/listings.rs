@@ -110,10 +110,11 @@ mod tests {
         room
     }
 
+    /// Its second row as M-101 of 02 reads it.
     #[test]
     fn the_listing_of_01() {
         let input = sheet(&[], &[(1, 10.0, 1500.0), (1, 10.5, 1500.0), (1, 100.0, 900.0)]);
-        assert_eq!(regions(&input), "row kind answer region\n1 1 0 5\n2 1 4 0\n3 1 0 2\n");
+        assert_eq!(regions(&input), "row kind answer region\n1 1 0 5\n2 1 0 5\n3 1 0 2\n");
     }
 
     #[test]

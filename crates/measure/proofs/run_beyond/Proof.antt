@@ -1,9 +1,9 @@
--- `measure::run_dense` is safe and ends: k counts up to n. Assumes nothing.
+-- `measure::run_beyond` is safe and ends: k counts up to n. Assumes nothing.
 use Prim.Native.Nat.{_≤_, _-_}
 use native.Mathlib.Omega.{arith}
 use borrow.Author.Needs.{needs}
-use Rattle.measure.proofs.run_dense.Statement.{statement}
-use Rattle.measure.proofs.run_dense.Tie as tie
+use Rattle.measure.proofs.run_beyond.Statement.{statement}
+use Rattle.measure.proofs.run_beyond.Tie as tie
 
 abbrev Inv-loop : tie.InvT-loop
 Inv-loop operation n x₀ sum₀ k₀ x sum k = k ≤ n
@@ -14,8 +14,8 @@ abbrev μ-loop : tie.MeasureT-loop
 loop-holds : tie.Need-loop-holds Inv-loop μ-loop
 loop-holds c = omega arith
 
-dense-worked-requires : tie.Need-dense-worked-requires Inv-loop μ-loop
-dense-worked-requires c κs = search needs
+beyond-worked-requires : tie.Need-beyond-worked-requires Inv-loop μ-loop
+beyond-worked-requires c κs = search needs
 
 add-k : tie.Need-add-k Inv-loop μ-loop
 add-k c = omega arith
@@ -29,5 +29,5 @@ loop-again c = omega arith
 returns : tie.Need-returns Inv-loop μ-loop
 returns c = search needs
 
-pub run-dense-spec : {M : Type 1} → statement M
-run-dense-spec = tie.close (tie.spec Inv-loop μ-loop loop-holds dense-worked-requires add-k loop-less loop-again returns)
+pub run-beyond-spec : {M : Type 1} → statement M
+run-beyond-spec = tie.close (tie.spec Inv-loop μ-loop loop-holds beyond-worked-requires add-k loop-less loop-again returns)
