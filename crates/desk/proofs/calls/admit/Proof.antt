@@ -2,7 +2,7 @@
 use borrow.Author.Needs.{needs}
 use Prim.Native.Nat.{_<_}
 use borrow.Author.Tests.{le-ltb, lt-ltb}
-use Rattle.desk.specs.Model.{admitted}
+use Rattle.runs.specs.Model.{admitted}
 use Rattle.ledger.proofs.Good.{sound-good, free-row}
 use Rattle.ledger.proofs.Lists.{row-fits, count-fits, rows-long, counts-long}
 use Rattle.desk.proofs.calls.admit.Statement.{statement}

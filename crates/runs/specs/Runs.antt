@@ -14,12 +14,12 @@ use Rattle.settle.specs.declared.Settled.{Settled}
 use Rattle.settle.specs.Settle.{judgedOf}
 use Rattle.ledger.specs.declared.Row.{Row}
 use Rattle.ledger.specs.declared.Desk.{Desk}
-use Rattle.desk.specs.declared.Answer.{Answer}
-use Rattle.desk.specs.declared.Answer.the-variants.{Ticket, State}
-use Rattle.desk.specs.declared.Outcome.{Outcome}
+use Rattle.runs.specs.declared.Answer.{Answer}
+use Rattle.runs.specs.declared.Answer.the-variants.{Ticket, State}
+use Rattle.runs.specs.declared.Outcome.{Outcome}
 use Rattle.ledger.specs.Search.{bit}
 use Rattle.ledger.specs.Rows.{due, row, held}
-use Rattle.desk.specs.Model.{newDesk, next, Query, queryOf, halve, settle, postOf, turnOf, peekOf, collectOf, withdrawOf}
+use Rattle.runs.specs.Model.{newDesk, next, Query, queryOf, halve, settle, postOf, turnOf, peekOf, collectOf, withdrawOf}
 
 -- ---- calls and runs
 

@@ -9,22 +9,22 @@ use lib.ListN.{length}
 use lib.Ieee.{Float}
 use Rattle.settle.specs.declared.Settled.{Settled}
 use Rattle.ledger.specs.declared.Desk.{Desk}
-use Rattle.desk.specs.declared.Answer.{Answer}
-use Rattle.desk.specs.declared.Answer.the-variants.{Refused, Ticket, Halved, Idle, Shown, State, Freed}
+use Rattle.runs.specs.declared.Answer.{Answer}
+use Rattle.runs.specs.declared.Answer.the-variants.{Refused, Ticket, Halved, Idle, Shown, State, Freed}
 use Rattle.ledger.specs.Rows.{due, row, counted, held, ofCaller, vacant, unfinished, tally, lowest, sound}
-use Rattle.desk.specs.Answers.{numberOf, whole, kelvin, state, valuesOf, Tells}
-use Rattle.desk.specs.Model.{newDesk, queryOf, settle, emptied}
+use Rattle.runs.specs.Answers.{numberOf, whole, kelvin, state, valuesOf, Tells}
+use Rattle.runs.specs.Model.{newDesk, queryOf, settle, emptied}
 use Rattle.ledger.proofs.Good.{Good, good-sound, sound-good, free-row}
-use Rattle.desk.specs.Runs.{Call, post, turn, peek, collect, withdraw, step, afterFrom, after, answerTo, Entry, historyFrom, history, ownCalls, ownPart, enough, turns, OpenFor, Patient, CollectsGive, HalvedTo, JustPosted, SettledTo, Origin, goesTo, received, HalvedOnce}
-use Rattle.desk.specs.Refusals.{firstOf, testsOf}
-use Rattle.desk.proofs.Runs.Refusals.{keeps, in-order}
-use Rattle.desk.proofs.Runs.Rows.{busy, idle, turn-row, pass-row, peek-row, early-row, collect-row, withdraw-row}
-use Rattle.desk.proofs.Runs.Kept.{good-new, good-step}
-use Rattle.desk.proofs.Runs.Own.{post-row, followed, peeked, collected, peek-at, collect-at, collect-ready}
-use Rattle.desk.proofs.Runs.Posted.{open-posted, patient-collects}
-use Rattle.desk.proofs.Runs.Once.{one-post}
-use Rattle.desk.proofs.Runs.Same.{same-answers}
-use Rattle.desk.proofs.Runs.Received.{peek-received}
+use Rattle.runs.specs.Runs.{Call, post, turn, peek, collect, withdraw, step, afterFrom, after, answerTo, Entry, historyFrom, history, ownCalls, ownPart, enough, turns, OpenFor, Patient, CollectsGive, HalvedTo, JustPosted, SettledTo, Origin, goesTo, received, HalvedOnce}
+use Rattle.runs.specs.Refusals.{firstOf, testsOf}
+use Rattle.runs.proofs.Refusals.{keeps, in-order}
+use Rattle.runs.proofs.Rows.{busy, idle, turn-row, pass-row, peek-row, early-row, collect-row, withdraw-row}
+use Rattle.runs.proofs.Kept.{good-new, good-step}
+use Rattle.runs.proofs.Own.{post-row, followed, peeked, collected, peek-at, collect-at, collect-ready}
+use Rattle.runs.proofs.Posted.{open-posted, patient-collects}
+use Rattle.runs.proofs.Once.{one-post}
+use Rattle.runs.proofs.Same.{same-answers}
+use Rattle.runs.proofs.Received.{peek-received}
 
 -- Two runs from a new desk in which one model posts, collects and withdraws the same things in the same order, both patient: all its answers are the same
 -- in both, tickets included, and each of its collects that names an open ticket gives a state.

@@ -8,20 +8,20 @@ use native.Mathlib.Omega.{arith}
 use lib.Dec.{ltb}
 use borrow.Author.Tests.{le-ltb, lt-ltb}
 use Rattle.ledger.specs.declared.Desk.{Desk}
-use Rattle.desk.specs.declared.Answer.the-variants.{Halved, Idle}
-use Rattle.desk.specs.declared.Open.{Open}
-use Rattle.desk.specs.declared.Open.the-variants.{At}
+use Rattle.runs.specs.declared.Answer.the-variants.{Halved, Idle}
+use Rattle.runs.specs.declared.Open.{Open}
+use Rattle.runs.specs.declared.Open.the-variants.{At}
 use Rattle.ledger.specs.Rows.{due, row, held, unfinished, onward, lowest}
-use Rattle.desk.specs.Answers.{whole, kelvin, state, Tells}
-use Rattle.desk.specs.Model.{answers, queryOf, settle, halvedRow, next, past, turnedAt, turnOf, openOf, emptied, peekAt, collectAt, withdrawAt, peekOf, collectOf, withdrawOf}
+use Rattle.runs.specs.Answers.{whole, kelvin, state, Tells}
+use Rattle.runs.specs.Model.{answers, queryOf, settle, halvedRow, next, past, turnedAt, turnOf, openOf, emptied, peekAt, collectAt, withdrawAt, peekOf, collectOf, withdrawOf}
 use Rattle.ledger.proofs.Search.{and-true, least-le, least-none}
 use Rattle.ledger.proofs.Tests.{held-is}
 use Rattle.ledger.proofs.Changes.{row-here, row-else}
 use Rattle.ledger.proofs.Good.{Good, good-sound}
-use Rattle.desk.proofs.Tickets.{open-seat, seat-open, one-row}
-use Rattle.desk.proofs.Halved.{halved-once}
-use Rattle.desk.proofs.Runs.Round.{ahead, ahead-lt, ahead-back}
-use Rattle.desk.specs.Runs.{turn, peek, collect, withdraw, step, goesTo, HalvedOnce}
+use Rattle.runs.proofs.Tickets.{open-seat, seat-open, one-row}
+use Rattle.runs.proofs.Halved.{halved-once}
+use Rattle.runs.proofs.Round.{ahead, ahead-lt, ahead-back}
+use Rattle.runs.specs.Runs.{turn, peek, collect, withdraw, step, goesTo, HalvedOnce}
 
 module _ (d : Desk) (g : Good d) where
   -- whether the k-th row from the pointer on has halvings to go

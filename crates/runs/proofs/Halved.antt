@@ -3,8 +3,8 @@ use mathlib.Core.Path.{_≡_, refl}
 use Prim.Native.Nat.{ℕ}
 use Rattle.ledger.specs.declared.Row.{Row}
 use Rattle.ledger.specs.Rows.{held, ofCaller}
-use Rattle.desk.specs.Model.{halvedRow}
-use Rattle.desk.specs.Runs.{HalvedOnce}
+use Rattle.runs.specs.Model.{halvedRow}
+use Rattle.runs.specs.Runs.{HalvedOnce}
 
 pub halved-once : (r : Row) → HalvedOnce r (halvedRow r)
 unfolding halvedRow
