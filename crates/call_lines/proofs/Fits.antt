@@ -7,8 +7,8 @@ use Rattle.text.proofs.Lengths.{digits, column-short}
 use Rattle.equations.specs.Equations.{regionOf}
 use Rattle.states.specs.declared.Single.{Single}
 use Rattle.ledger.specs.Search.{bit}
-use Rattle.desk.specs.declared.Answer.{Answer}
-use Rattle.desk.specs.declared.Answer.the-variants.{Refused, Ticket, Halved, Idle, Shown, State, Freed}
+use Rattle.runs.specs.declared.Answer.{Answer}
+use Rattle.runs.specs.declared.Answer.the-variants.{Refused, Ticket, Halved, Idle, Shown, State, Freed}
 use Rattle.records.specs.declared.Call.{Call}
 use Rattle.records.specs.declared.Call.the-variants.{Post, Peek, Collect, Withdraw}
 use Rattle.call_lines.specs.Lines.{nameOf, refusedOf, stateColumns, answerOf, callLine}

@@ -12,14 +12,14 @@ use denote.Struct.Declared.{row as owned}
 use Rattle.ledger.proofs.Desk as DeskT
 use Rattle.ledger.specs.declared.Row.{Row}
 use Rattle.ledger.specs.declared.Desk.{Desk}
-use Rattle.desk.specs.declared.Answer.the-variants as Answer
-use Rattle.desk.specs.declared.Open.the-variants.{At}
+use Rattle.runs.specs.declared.Answer.the-variants as Answer
+use Rattle.runs.specs.declared.Open.the-variants.{At}
 use Rattle.ledger.specs.Rows.{due, row, unfinished, sound, put}
-use Rattle.desk.specs.Model.{answers, refuse, queryOf, bracketOf, settle, halvedRow, next, past, turnOf, openOf, emptied, collectOf, collectAt}
+use Rattle.runs.specs.Model.{answers, refuse, queryOf, bracketOf, settle, halvedRow, next, past, turnOf, openOf, emptied, collectOf, collectAt}
 use Rattle.ledger.proofs.Tests.{unfinished-is}
 use Rattle.ledger.proofs.Changes.{onward-true}
 use Rattle.ledger.proofs.Lists.{row-is}
-use Rattle.desk.proofs.Tickets.{open-seat}
+use Rattle.runs.proofs.Tickets.{open-seat}
 
 -- r stands past the end of the rows
 module _ (d : Desk) (vs : List Val) (own : Is (owned DeskT.the-type) d vs) (i : ℕ) (r : Row) where

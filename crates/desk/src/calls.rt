@@ -4,10 +4,7 @@ ghost use Prim.Native.Nat.{_<_};
 ghost use mathlib.Core.Bool.{true, _&&_};
 ghost use lib.Dec.{ltb};
 ghost use Rattle.ledger.specs.Rows.{due, between, sound};
-ghost use Rattle.desk.specs.Model.{newDesk, refuse, admitted, postOf, halvedRow, turnOf, openOf, peekOf, emptied, collectOf, withdrawOf};
-use super::Answer;
-use super::Open;
-use super::Outcome;
+ghost use Rattle.runs.specs.Model.{newDesk, refuse, admitted, postOf, halvedRow, turnOf, openOf, peekOf, emptied, collectOf, withdrawOf};
 use ledger::Desk;
 use ledger::HALVINGS;
 use ledger::Row;
@@ -17,6 +14,9 @@ use ledger::blank_row;
 use ledger::count_open;
 use ledger::is_sound;
 use ledger::places_on;
+use runs::Answer;
+use runs::Open;
+use runs::Outcome;
 use settle::Judged;
 
 // A desk with every row empty and every number in it 0.

@@ -1,13 +1,13 @@
--- What `replay` plays is a run in the sense of the desk's theorems (desk specs/Runs.antt): before each record of a run in which no desk is given, the desk
+-- What `replay` plays is a run in the sense of the desk's theorems (runs specs/Runs.antt): before each record of a run in which no desk is given, the desk
 -- is the one that the calls of the records before it leave (`desk-is-after`). Assumes nothing.
 use Prim.Native.Nat.{ℕ, zero, suc, _<_}
 use native.Mathlib.Omega.{arith}
 use mathlib.Core.Path.{_≡_, refl, sym, ap, _∙_}
 use mathlib.Core.List.{List, [], _∷_, _++_}
 use lib.ListN.{replicate}
-use Rattle.desk.specs.Runs as Runs
+use Rattle.runs.specs.Runs as Runs
 use Rattle.ledger.specs.declared.Desk.{Desk}
-use Rattle.desk.proofs.Runs.Own.{after-append}
+use Rattle.runs.proofs.Own.{after-append}
 use Rattle.records.specs.declared.Deed.{Deed}
 use Rattle.records.specs.declared.Deed.the-variants as Deed
 use Rattle.turns.proofs.TurnLaws.{turns-desk}

@@ -8,7 +8,7 @@ use mathlib.Core.Logic.{⊎-elim}
 use native.Mathlib.Nat.{eq-or-lt-of-le}
 use lib.ListN.{length, take, drop, length-drop}
 use lib.Seq.{take-length, drop-drop}
-use Rattle.desk.specs.Model.{newDesk}
+use Rattle.runs.specs.Model.{newDesk}
 use Rattle.ledger.specs.declared.Desk.{Desk}
 use Rattle.records.specs.Records.{deedOf}
 use Rattle.transcript.specs.declared.Step.{Step}

@@ -5,10 +5,10 @@ use mathlib.Core.Path.{_≡_}
 use mathlib.Core.List.{List}
 use lib.ListN.{length, drop}
 use Rattle.text.specs.Texts.{joined}
-use Rattle.desk.specs.Model.{newDesk}
-use Rattle.desk.specs.Runs as Runs
+use Rattle.runs.specs.Model.{newDesk}
+use Rattle.runs.specs.Runs as Runs
 use Rattle.ledger.specs.declared.Desk.{Desk}
-use Rattle.desk.specs.declared.Outcome.{Outcome}
+use Rattle.runs.specs.declared.Outcome.{Outcome}
 use Rattle.records.specs.declared.Call.{Call}
 use Rattle.records.specs.declared.Call.the-variants.{Post, Peek, Collect, Withdraw}
 use Rattle.records.specs.declared.Deed.{Deed}

@@ -1,9 +1,9 @@
 -- Turns of the desk one after the other: what is counted of each, and the desk that the last of them leaves. Definitions only.
 use Prim.Native.Nat.{ℕ, zero, suc, _+_}
-use Rattle.desk.specs.Model.{turnOf}
+use Rattle.runs.specs.Model.{turnOf}
 use Rattle.ledger.specs.declared.Desk.{Desk}
-use Rattle.desk.specs.declared.Answer.{Answer}
-use Rattle.desk.specs.declared.Answer.the-variants as Answer
+use Rattle.runs.specs.declared.Answer.{Answer}
+use Rattle.runs.specs.declared.Answer.the-variants as Answer
 use Rattle.turns.specs.declared.Turned.{Turned}
 
 -- one turn more, which gave this answer and left this desk; of the answers a turn gives only three

@@ -6,9 +6,9 @@ use types.Run.{OneOf, miss}
 use denote.Enum.Declared.{tagOf}
 use Rattle.text.specs.Texts.{newline}
 use Rattle.text.proofs.Pieces.{said}
-use Rattle.desk.proofs.Answer as AnswerT
-use Rattle.desk.specs.declared.Answer.{Answer}
-use Rattle.desk.specs.declared.Answer.the-variants.{Refused, Ticket, Halved, Idle, Shown, State, Freed}
+use Rattle.runs.proofs.Answer as AnswerT
+use Rattle.runs.specs.declared.Answer.{Answer}
+use Rattle.runs.specs.declared.Answer.the-variants.{Refused, Ticket, Halved, Idle, Shown, State, Freed}
 use Rattle.records.specs.declared.Call.{Call}
 use Rattle.call_lines.specs.Lines.{answerOf}
 use borrow.Author.Needs.{needs}

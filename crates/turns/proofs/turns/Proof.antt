@@ -2,8 +2,8 @@
 use Prim.Native.Nat.{_+_, _-_, _≤_}
 use mathlib.Core.Path.{_≡_, refl, sym, ap, _∙_}
 use native.Mathlib.Omega.{arith}
-use Rattle.desk.specs.Model.{turnOf}
-use Rattle.desk.specs.declared.Outcome.{Outcome}
+use Rattle.runs.specs.Model.{turnOf}
+use Rattle.runs.specs.declared.Outcome.{Outcome}
 use Rattle.turns.specs.declared.Turned.{Turned}
 use Rattle.turns.specs.Turns.{afterTurn, turnedOnce, turnsFrom}
 use Rattle.turns.proofs.TurnLaws.{one-turn, halved-more, idle-more}

@@ -1,8 +1,9 @@
 -- `desk::calls::admit` meets its contract: 13, 10, or the lowest free row, which a sound desk has for a caller with fewer than four open. Assumes nothing.
+use mathlib.Core.Path.{refl}
 use borrow.Author.Needs.{needs}
 use Prim.Native.Nat.{_<_}
 use borrow.Author.Tests.{le-ltb, lt-ltb}
-use Rattle.desk.specs.Model.{admitted}
+use Rattle.runs.specs.Model.{admitted}
 use Rattle.ledger.proofs.Good.{sound-good, free-row}
 use Rattle.ledger.proofs.Lists.{row-fits, count-fits, rows-long, counts-long}
 use Rattle.desk.proofs.calls.admit.Statement.{statement}
@@ -55,7 +56,7 @@ element-write-d c =
 
 returns-3 : tie.Need-returns-3
 unfolding admitted
-returns-3 c = rw (lt-ltb _ _ (c .before .before .before .before .if1 .left), ← c .before .before .before .count-open .ensures, lt-ltb _ _ (c .before .before .if2 .left), ← c .before .places-on .ensures)
+returns-3 c = rw (lt-ltb _ _ (c .before .before .before .before .if1 .left), ← c .before .before .before .count-open .ensures, lt-ltb _ _ (c .before .before .if2 .left), ← c .before .places-on .ensures) refl
 
 pub admit-spec : {M : Type 1} → statement M
 admit-spec =

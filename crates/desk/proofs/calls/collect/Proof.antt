@@ -2,10 +2,10 @@
 use borrow.Author.Needs.{needs}
 use mathlib.Core.Path.{_≡_, sym, _∙_}
 use Prim.Native.Nat.{_<_}
-use Rattle.desk.specs.declared.Open.the-variants.{At}
+use Rattle.runs.specs.declared.Open.the-variants.{At}
 use Rattle.ledger.proofs.Lists.{row-fits}
-use Rattle.desk.proofs.Tickets.{open-seat}
-use Rattle.desk.specs.Model.{openOf, collectOf, collectAt}
+use Rattle.runs.proofs.Tickets.{open-seat}
+use Rattle.runs.specs.Model.{openOf, collectOf, collectAt}
 use Rattle.desk.proofs.Ways.{collect-early, collect-hands}
 use Rattle.desk.proofs.calls.collect.Statement.{statement}
 use Rattle.desk.proofs.calls.collect.Tie as tie

@@ -1,6 +1,6 @@
 -- `desk::calls::halved` meets its contract: the settling layer's halving of the row's own bracket, and one more counted. Assumes nothing.
 use borrow.Author.Needs.{needs}
-use Rattle.desk.specs.Model.{halvedRow}
+use Rattle.runs.specs.Model.{halvedRow}
 use Rattle.desk.proofs.calls.halved.Statement.{statement}
 use Rattle.desk.proofs.calls.halved.Tie as tie
 

@@ -3,7 +3,7 @@ use mathlib.Core.Path.{_≡_, sym, _∙_}
 use Prim.Native.Nat.{suc-le-suc}
 use borrow.Author.Tests.{not-true, not-false, le-ltb, lt-ltb}
 use Rattle.ledger.specs.Rows.{held, lowest}
-use Rattle.desk.specs.Model.{openOf}
+use Rattle.runs.specs.Model.{openOf}
 use Rattle.desk.proofs.calls.look_up.Statement.{statement}
 use Rattle.desk.proofs.calls.look_up.Tie as tie
 

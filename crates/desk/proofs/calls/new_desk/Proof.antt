@@ -1,6 +1,6 @@
 -- `desk::calls::new_desk` meets its contract: 32 times the blank row. Assumes nothing.
 use mathlib.Core.Path.{refl}
-use Rattle.desk.specs.Model.{newDesk}
+use Rattle.runs.specs.Model.{newDesk}
 use Rattle.desk.proofs.calls.new_desk.Statement.{statement}
 use Rattle.desk.proofs.calls.new_desk.Tie as tie
 

@@ -2,10 +2,10 @@
 use borrow.Author.Needs.{needs}
 use mathlib.Core.Path.{_≡_, refl, sym, _∙_}
 use Prim.Native.Nat.{_<_}
-use Rattle.desk.specs.declared.Open.the-variants.{At}
+use Rattle.runs.specs.declared.Open.the-variants.{At}
 use Rattle.ledger.proofs.Lists.{row-fits, row-is}
-use Rattle.desk.proofs.Tickets.{open-seat}
-use Rattle.desk.specs.Model.{openOf, peekOf, peekAt}
+use Rattle.runs.proofs.Tickets.{open-seat}
+use Rattle.runs.specs.Model.{openOf, peekOf, peekAt}
 use Rattle.desk.proofs.calls.peek.Statement.{statement}
 use Rattle.desk.proofs.calls.peek.Tie as tie
 

@@ -8,7 +8,7 @@ use lib.Dec.{ltb}
 use Rattle.ledger.specs.Rows.{between, sound}
 use Rattle.ledger.proofs.Search.{and-true}
 use Rattle.ledger.proofs.Lists.{count-fits}
-use Rattle.desk.specs.Model.{postOf, judgedPost}
+use Rattle.runs.specs.Model.{postOf, judgedPost}
 use Rattle.desk.proofs.calls.post.Statement.{statement}
 use Rattle.desk.proofs.calls.post.Tie as tie
 

@@ -5,7 +5,7 @@ use Prim.Native.Nat.{ℕ, _+_, _%_, _<_}
 use mir.Syntax.{w64}
 use mir.Val.{Fits}
 use borrow.Author.Tests.{not-true, not-false, le-ltb}
-use Rattle.desk.specs.Model.{turnOf}
+use Rattle.runs.specs.Model.{turnOf}
 use Rattle.ledger.proofs.Good.{sound-good}
 use Rattle.ledger.proofs.Lists.{row-fits, rows-long, counts-long}
 use Rattle.desk.proofs.Ways.{turn-goes-on, turn-halves}

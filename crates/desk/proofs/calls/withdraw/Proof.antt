@@ -2,9 +2,9 @@
 use borrow.Author.Needs.{needs}
 use mathlib.Core.Path.{_≡_, sym, _∙_}
 use Prim.Native.Nat.{_<_}
-use Rattle.desk.specs.declared.Open.the-variants.{At}
-use Rattle.desk.proofs.Tickets.{open-seat}
-use Rattle.desk.specs.Model.{openOf, withdrawOf, withdrawAt}
+use Rattle.runs.specs.declared.Open.the-variants.{At}
+use Rattle.runs.proofs.Tickets.{open-seat}
+use Rattle.runs.specs.Model.{openOf, withdrawOf, withdrawAt}
 use Rattle.desk.proofs.calls.withdraw.Statement.{statement}
 use Rattle.desk.proofs.calls.withdraw.Tie as tie
 

@@ -1,7 +1,7 @@
 -- `transcript::steps::play` meets its contract: what each way of reading a record does. Assumes nothing.
 use mathlib.Core.Path.{_≡_, sym, ap, _∙_}
 use Rattle.text.proofs.Pieces.{said, behind}
-use Rattle.desk.specs.declared.Outcome.{Outcome}
+use Rattle.runs.specs.declared.Outcome.{Outcome}
 use Rattle.transcript.specs.declared.Step.{Step}
 use Rattle.turns.specs.declared.Turned.{Turned}
 use Rattle.records.specs.declared.Deed.the-variants.{Asked, Turns, Given, Shown, Bad}

@@ -16,24 +16,24 @@ use Rattle.brackets.specs.declared.Bracket.{Bracket}
 use Rattle.settle.specs.declared.Settled.{Settled}
 use Rattle.ledger.specs.declared.Row.{Row}
 use Rattle.ledger.specs.declared.Desk.{Desk}
-use Rattle.desk.specs.declared.Outcome.{Outcome}
-use Rattle.desk.specs.declared.Answer.{Answer}
-use Rattle.desk.specs.declared.Answer.the-variants.{Refused, Ticket, Idle, State, Freed}
-use Rattle.desk.specs.declared.Open.the-variants.{Closed}
+use Rattle.runs.specs.declared.Outcome.{Outcome}
+use Rattle.runs.specs.declared.Answer.{Answer}
+use Rattle.runs.specs.declared.Answer.the-variants.{Refused, Ticket, Idle, State, Freed}
+use Rattle.runs.specs.declared.Open.the-variants.{Closed}
 use Rattle.ledger.specs.Rows.{due, blank, row, counted, held, ofCaller, vacant, tally, lowest, put}
-use Rattle.desk.specs.Model.{newDesk, answers, refuse, Query, queryOf, bracketOf, halve, settle, fresh, halvedRow, next, past, openOf, emptied, collectAt, withdrawAt, collectOf, withdrawOf}
+use Rattle.runs.specs.Model.{newDesk, answers, refuse, Query, queryOf, bracketOf, halve, settle, fresh, halvedRow, next, past, openOf, emptied, collectAt, withdrawAt, collectOf, withdrawOf}
 use Rattle.ledger.proofs.Search.{not-some}
 use Rattle.ledger.proofs.Tests.{of-empty, of-other, is-of, held-is, held-of, is-held, held-empty, vacant-is}
-use Rattle.desk.proofs.Halved.{of-halved, held-halved}
+use Rattle.runs.proofs.Halved.{of-halved, held-halved}
 use Rattle.ledger.proofs.Changes.{tally-same, tally-more, tally-less, lowest-true, none-lowest, some-lowest}
 use Rattle.ledger.proofs.Good.{Good, good-sound}
-use Rattle.desk.proofs.Tickets.{Seat, seat-open}
-use Rattle.desk.specs.Runs.{Call, post, turn, peek, collect, withdraw, step, afterFrom, after, Entry, historyFrom, history, keep, asks, ownCalls, ownPart, enough, turns, OpenFor, Patient}
-use Rattle.desk.proofs.Runs.Posts.{Job, Ruling, against, given, ruling, rulingAt, Granted, seats, onRuling, post-ruled, ruling-given}
-use Rattle.desk.proofs.Runs.Kept.{Effect, kept, idled, turned, seated, freed, effect, good-step, good-new, tally-new, count-new, not-yet, held-fresh, seat-free, counts-wide}
-use Rattle.desk.proofs.Runs.Fair.{Tracked, aged, tracked-step}
-use Rattle.desk.proofs.Runs.Own.{tracked-fresh, Followed, followed, ready, ready-at}
-use Rattle.desk.proofs.Runs.Posted.{open-posted, after-one}
+use Rattle.runs.proofs.Tickets.{Seat, seat-open}
+use Rattle.runs.specs.Runs.{Call, post, turn, peek, collect, withdraw, step, afterFrom, after, Entry, historyFrom, history, keep, asks, ownCalls, ownPart, enough, turns, OpenFor, Patient}
+use Rattle.runs.proofs.Posts.{Job, Ruling, against, given, ruling, rulingAt, Granted, seats, onRuling, post-ruled, ruling-given}
+use Rattle.runs.proofs.Kept.{Effect, kept, idled, turned, seated, freed, effect, good-step, good-new, tally-new, count-new, not-yet, held-fresh, seat-free, counts-wide}
+use Rattle.runs.proofs.Fair.{Tracked, aged, tracked-step}
+use Rattle.runs.proofs.Own.{tracked-fresh, Followed, followed, ready, ready-at}
+use Rattle.runs.proofs.Posted.{open-posted, after-one}
 
 -- ---- a desk of one caller
 

@@ -3,7 +3,7 @@ use mathlib.Core.Path.{_≡_, sym, ap, _∙_}
 use mathlib.Core.Logic.{_≢_}
 use Prim.Native.Nat.{ℕ, suc, _+_, _-_, _%_, _≤_, _<_}
 use native.Mathlib.Omega.{arith}
-use Rattle.desk.specs.Model.{past}
+use Rattle.runs.specs.Model.{past}
 
 -- how far i lies ahead of the place p
 abbrev pub ahead : ℕ → ℕ → ℕ

@@ -14,12 +14,12 @@ use Rattle.settle.specs.declared.Settled.{Settled}
 use Rattle.settle.specs.Settle.{judgedOf}
 use Rattle.ledger.specs.declared.Row.{Row}
 use Rattle.ledger.specs.declared.Desk.{Desk}
-use Rattle.desk.specs.declared.Answer.{Answer}
-use Rattle.desk.specs.declared.Answer.the-variants.{Ticket, State}
-use Rattle.desk.specs.declared.Outcome.{Outcome}
+use Rattle.runs.specs.declared.Answer.{Answer}
+use Rattle.runs.specs.declared.Answer.the-variants.{Ticket, State}
+use Rattle.runs.specs.declared.Outcome.{Outcome}
 use Rattle.ledger.specs.Search.{bit}
 use Rattle.ledger.specs.Rows.{due, row, held}
-use Rattle.desk.specs.Model.{newDesk, next, Query, queryOf, halve, settle, postOf, turnOf, peekOf, collectOf, withdrawOf}
+use Rattle.runs.specs.Model.{newDesk, next, Query, queryOf, halve, settle, postOf, turnOf, peekOf, collectOf, withdrawOf}
 
 -- ---- calls and runs
 
@@ -164,8 +164,10 @@ unfoldable pub received : ℕ → ℕ → Desk → List Call → ℕ
 received c t d [] = 0
 received c t d (x ∷ xs) = bit (goesTo c t d x) + received c t (step d x .desk) xs
 
--- s is the row r after one halving of the bracket that r holds
+-- s is the row r after one halving of the bracket that r holds: the same caller's ticket, the same query, in the same region
 pub record HalvedOnce (r s : Row) : Type 0 where
+  pub same-ticket : (s .filled ≡ r .filled) × (s .caller ≡ r .caller) × (s .ticket ≡ r .ticket)
+  pub same-region : s .region ≡ r .region
   pub same-query : queryOf s ≡ queryOf r
   pub one-more : s .halvings ≡ r .halvings + 1
   pub own-bracket : record { lo = s .lo; hi = s .hi } ≡ halve (queryOf r) (record { lo = r .lo; hi = r .hi })

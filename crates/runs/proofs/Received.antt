@@ -11,19 +11,19 @@ use lib.Seq.{getD-set-same}
 use lib.Ieee.{Float}
 use borrow.Author.Tests.{lt-ltb, le-ltb}
 use Rattle.ledger.specs.declared.Desk.{Desk}
-use Rattle.desk.specs.declared.Answer.the-variants.{Ticket, Shown}
+use Rattle.runs.specs.declared.Answer.the-variants.{Ticket, Shown}
 use Rattle.ledger.specs.Search.{bit}
 use Rattle.ledger.specs.Rows.{due, blank, row, counted, held, ofCaller, vacant, tally, lowest}
-use Rattle.desk.specs.Model.{newDesk, fresh, halvedRow, next, past, turnedAt}
+use Rattle.runs.specs.Model.{newDesk, fresh, halvedRow, next, past, turnedAt}
 use Rattle.ledger.proofs.Tests.{held-is, held-empty}
-use Rattle.desk.proofs.Halved.{held-halved}
+use Rattle.runs.proofs.Halved.{held-halved}
 use Rattle.ledger.proofs.Changes.{row-each, counts-each}
 use Rattle.ledger.proofs.Good.{Good}
-use Rattle.desk.proofs.Tickets.{one-row}
-use Rattle.desk.specs.Runs.{Call, post, peek, step, afterFrom, after, answerTo, goesTo, received}
-use Rattle.desk.proofs.Runs.Posts.{Job, Granted, seats}
-use Rattle.desk.proofs.Runs.Kept.{Effect, kept, idled, turned, seated, freed, effect, good-step, held-fresh, seat-free, counts-wide, was-given}
-use Rattle.desk.proofs.Runs.Own.{good-from, good-after, after-append, got, peeked}
+use Rattle.runs.proofs.Tickets.{one-row}
+use Rattle.runs.specs.Runs.{Call, post, peek, step, afterFrom, after, answerTo, goesTo, received}
+use Rattle.runs.proofs.Posts.{Job, Granted, seats}
+use Rattle.runs.proofs.Kept.{Effect, kept, idled, turned, seated, freed, effect, good-step, held-fresh, seat-free, counts-wide, was-given}
+use Rattle.runs.proofs.Own.{good-from, good-after, after-append, got, peeked}
 
 module _ (c t : ℕ) where
   record Has (h : ℕ) (d : Desk) : Type 0 where

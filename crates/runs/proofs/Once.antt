@@ -4,8 +4,8 @@ use mathlib.Core.List.{List, [], _∷_, _++_}
 use Prim.Native.Nat.{ℕ, _<_}
 use native.Mathlib.Omega.{arith}
 use Rattle.ledger.specs.Rows.{counted}
-use Rattle.desk.specs.Runs.{Call, post, after, Origin}
-use Rattle.desk.proofs.Runs.Own.{good-after, got, followed}
+use Rattle.runs.specs.Runs.{Call, post, after, Origin}
+use Rattle.runs.proofs.Own.{good-after, got, followed}
 
 -- a run parted at a call in two ways: at one place, or at one that comes before the other
 data Parted (l : List Call) (x : Call) (r l′ : List Call) (x′ : Call) (r′ : List Call) : Type 0 where

@@ -8,7 +8,7 @@ use Rattle.settle.specs.declared.Judged.the-variants.{Refused, Within}
 use Rattle.settle.specs.Settle.{judgedOf}
 use Rattle.ledger.specs.declared.Desk.{Desk}
 use Rattle.ledger.specs.Rows.{due, most, row, counted, held, ofCaller, tally, lowest, between, sound}
-use Rattle.desk.specs.Runs.{Call, post, turn, peek, collect, withdraw}
+use Rattle.runs.specs.Runs.{Call, post, turn, peek, collect, withdraw}
 
 -- a test, and the number of the refusal where it fails
 pub data Test : Type 0 where

@@ -7,18 +7,18 @@ use native.Mathlib.Omega.{arith}
 use lib.ListN.{set}
 use Rattle.settle.specs.declared.Settled.{Settled}
 use Rattle.ledger.specs.declared.Desk.{Desk}
-use Rattle.desk.specs.declared.Answer.{Answer}
-use Rattle.desk.specs.declared.Answer.the-variants.{Ticket, State}
+use Rattle.runs.specs.declared.Answer.{Answer}
+use Rattle.runs.specs.declared.Answer.the-variants.{Ticket, State}
 use Rattle.ledger.specs.Rows.{blank, row, counted, held, vacant, lowest}
-use Rattle.desk.specs.Model.{newDesk, fresh, halvedRow, next, past, postOf}
+use Rattle.runs.specs.Model.{newDesk, fresh, halvedRow, next, past, postOf}
 use Rattle.ledger.proofs.Tests.{held-empty}
-use Rattle.desk.proofs.Halved.{held-halved}
+use Rattle.runs.proofs.Halved.{held-halved}
 use Rattle.ledger.proofs.Changes.{row-each}
 use Rattle.ledger.proofs.Good.{Good, good-sound}
-use Rattle.desk.specs.Runs.{Call, post, turn, collect, step, afterFrom, after, answerTo, OpenFor, Patient, CollectsGive, Origin}
-use Rattle.desk.proofs.Runs.Posts.{post-ruled}
-use Rattle.desk.proofs.Runs.Kept.{Effect, kept, idled, turned, seated, freed, effect, good-step, good-new, row-new, held-fresh, seat-free}
-use Rattle.desk.proofs.Runs.Own.{after-append, collect-ready}
+use Rattle.runs.specs.Runs.{Call, post, turn, collect, step, afterFrom, after, answerTo, OpenFor, Patient, CollectsGive, Origin}
+use Rattle.runs.proofs.Posts.{post-ruled}
+use Rattle.runs.proofs.Kept.{Effect, kept, idled, turned, seated, freed, effect, good-step, good-new, row-new, held-fresh, seat-free}
+use Rattle.runs.proofs.Own.{after-append, collect-ready}
 
 later : (c t : ℕ) (run : List Call) (x : Call) → Origin c t run → Origin c t (run ++ x ∷ [])
 later c t run x o = record {

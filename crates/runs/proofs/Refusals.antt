@@ -11,14 +11,14 @@ use Rattle.settle.specs.declared.Judged.the-variants as Judged
 use Rattle.settle.specs.declared.Settled.{Settled}
 use Rattle.settle.specs.Settle.{judgedOf}
 use Rattle.ledger.specs.declared.Desk.{Desk}
-use Rattle.desk.specs.declared.Answer.the-variants.{Refused, Ticket, Halved, Idle, State}
-use Rattle.desk.specs.declared.Open.{Open}
-use Rattle.desk.specs.declared.Open.the-variants.{At, Closed}
+use Rattle.runs.specs.declared.Answer.the-variants.{Refused, Ticket, Halved, Idle, State}
+use Rattle.runs.specs.declared.Open.{Open}
+use Rattle.runs.specs.declared.Open.the-variants.{At, Closed}
 use Rattle.ledger.specs.Rows.{due, most, row, counted, held, ofCaller, tally, lowest, between, sound}
-use Rattle.desk.specs.Answers.{numberOf}
-use Rattle.desk.specs.Model.{answers, refuse, admitted, judgedPost, postOf, next, turnedAt, turnOf, openOf, emptied, peekAt, collectAt, withdrawAt, peekOf, collectOf, withdrawOf}
-use Rattle.desk.specs.Runs.{Call, post, turn, peek, collect, withdraw, step}
-use Rattle.desk.specs.Refusals.{unless, firstOf, judged, testsOf}
+use Rattle.runs.specs.Answers.{numberOf}
+use Rattle.runs.specs.Model.{answers, refuse, admitted, judgedPost, postOf, next, turnedAt, turnOf, openOf, emptied, peekAt, collectAt, withdrawAt, peekOf, collectOf, withdrawOf}
+use Rattle.runs.specs.Runs.{Call, post, turn, peek, collect, withdraw, step}
+use Rattle.runs.specs.Refusals.{unless, firstOf, judged, testsOf}
 
 -- ---- the order
 

@@ -1,4 +1,5 @@
--- The theorems on runs, by theme; `Demand` states them, in the words of specs/Runs.antt.
+pub mod Tickets
+pub mod Halved
 pub mod Refusals
 pub mod Rows
 pub mod Round

@@ -1,4 +1,5 @@
--- On a sound desk, whether a run led to it or not, the calls that name a ticket and the turn that comes to its row go by what that row holds. Assumes nothing.
+-- On a sound desk, whether a run led to it or not, the calls that name a ticket and the turn that comes to its row go by what that row holds; and a turn idles
+-- just where no row has halvings to go. Assumes nothing.
 use mathlib.Core.Path.{_≡_, refl, ap, _∙_, subst}
 use mathlib.Core.Bool.{Bool, true, false, cond, _&&_}
 use mathlib.Core.List.{[], _∷_}
@@ -7,19 +8,38 @@ use native.Mathlib.Omega.{arith}
 use lib.Dec.{ltb}
 use borrow.Author.Tests.{le-ltb, lt-ltb}
 use Rattle.ledger.specs.declared.Desk.{Desk}
-use Rattle.desk.specs.declared.Answer.the-variants.{Halved, Idle}
-use Rattle.desk.specs.declared.Open.{Open}
-use Rattle.desk.specs.declared.Open.the-variants.{At}
-use Rattle.ledger.specs.Rows.{due, row, held, lowest}
-use Rattle.desk.specs.Answers.{whole, kelvin, state, Tells}
-use Rattle.desk.specs.Model.{answers, queryOf, settle, halvedRow, next, past, turnedAt, turnOf, openOf, emptied, peekAt, collectAt, withdrawAt, peekOf, collectOf, withdrawOf}
-use Rattle.ledger.proofs.Search.{and-true}
+use Rattle.runs.specs.declared.Answer.the-variants.{Halved, Idle}
+use Rattle.runs.specs.declared.Open.{Open}
+use Rattle.runs.specs.declared.Open.the-variants.{At}
+use Rattle.ledger.specs.Rows.{due, row, held, unfinished, onward, lowest}
+use Rattle.runs.specs.Answers.{whole, kelvin, state, Tells}
+use Rattle.runs.specs.Model.{answers, queryOf, settle, halvedRow, next, past, turnedAt, turnOf, openOf, emptied, peekAt, collectAt, withdrawAt, peekOf, collectOf, withdrawOf}
+use Rattle.ledger.proofs.Search.{and-true, least-le, least-none}
 use Rattle.ledger.proofs.Tests.{held-is}
 use Rattle.ledger.proofs.Changes.{row-here, row-else}
 use Rattle.ledger.proofs.Good.{Good, good-sound}
-use Rattle.desk.proofs.Tickets.{open-seat, seat-open, one-row}
-use Rattle.desk.proofs.Halved.{halved-once}
-use Rattle.desk.specs.Runs.{turn, peek, collect, withdraw, step, goesTo, HalvedOnce}
+use Rattle.runs.proofs.Tickets.{open-seat, seat-open, one-row}
+use Rattle.runs.proofs.Halved.{halved-once}
+use Rattle.runs.proofs.Round.{ahead, ahead-lt, ahead-back}
+use Rattle.runs.specs.Runs.{turn, peek, collect, withdraw, step, goesTo, HalvedOnce}
+
+module _ (d : Desk) (g : Good d) where
+  -- whether the k-th row from the pointer on has halvings to go
+  abbrev to-go : ℕ → Bool
+  to-go k = unfinished (row d ((d .pointer + k) % 32))
+
+  -- a turn where some row has, and where none has
+  pub busy : (i : ℕ) → i < 32 → unfinished (row d i) ≡ true → step d turn .answer ≡ Halved
+  unfolding turnOf onward
+  busy i place u =
+      let k = ahead (d .pointer) i in
+      let near : k < 32 = ahead-lt (d .pointer) i in
+      let first = least-le to-go 32 k near (rw (ahead-back (d .pointer) i (g .points) place) u) in
+      rw (good-sound d g, lt-ltb (next d) 32 (omega arith))
+
+  pub idle : ((i : ℕ) → i < 32 → unfinished (row d i) ≡ false) → (step d turn .answer ≡ Idle) × (step d turn .desk ≡ d)
+  unfolding turnOf onward
+  idle none = rw (good-sound d g, least-none to-go 32 (λ k l. none ((d .pointer + k) % 32) (omega arith))) (refl, refl)
 
 -- row i is that of caller c's ticket t
 module _ (d : Desk) (g : Good d) (c t i : ℕ) (place : i < 32) (has : held c t (row d i) ≡ true) where
@@ -51,12 +71,12 @@ module _ (d : Desk) (g : Good d) (c t i : ℕ) (place : i < 32) (has : held c t 
   withdraw-row = rw opened (record { number = refl; values = refl; leaves = refl })
 
   -- the turn that comes to the row
-  pub turn-row : goesTo c t d turn ≡ true → HalvedOnce (row d i) (row (step d turn .desk) i)
+  pub turn-row : goesTo c t d turn ≡ true → (step d turn .answer ≡ Halved) × HalvedOnce (row d i) (row (step d turn .desk) i)
   unfolding turnOf
   turn-row e =
       let o = and-true (ltb (next d) 32) (held c t (row d ((d .pointer + next d) % 32))) e in
       let here : (d .pointer + next d) % 32 ≡ i = one-row d g c t ((d .pointer + next d) % 32) i (omega arith) place (o .1) has in
-      rw (good-sound d g, o .0, here, row-here d i (halvedRow (row d i)) (d .counts) (past i) (g .long) place) (halved-once (row d i))
+      rw (good-sound d g, o .0, here, row-here d i (halvedRow (row d i)) (d .counts) (past i) (g .long) place) (refl, halved-once (row d i))
 
   -- and one that does not
   pub pass-row : goesTo c t d turn ≡ false → row (step d turn .desk) i ≡ row d i

@@ -15,11 +15,11 @@ use Rattle.settle.specs.declared.Settled.{Settled}
 use Rattle.settle.specs.Phases.{regionOf, phaseOf}
 use Rattle.settle.specs.Settle.{judgedOf, halvedOf, settledOf}
 use Rattle.equations.specs.declared.Phase.{Phase}
-use Rattle.desk.specs.declared.Answer.{Answer}
-use Rattle.desk.specs.declared.Answer.the-variants as Answer
-use Rattle.desk.specs.declared.Outcome.{Outcome}
-use Rattle.desk.specs.declared.Open.{Open}
-use Rattle.desk.specs.declared.Open.the-variants.{At, Closed}
+use Rattle.runs.specs.declared.Answer.{Answer}
+use Rattle.runs.specs.declared.Answer.the-variants as Answer
+use Rattle.runs.specs.declared.Outcome.{Outcome}
+use Rattle.runs.specs.declared.Open.{Open}
+use Rattle.runs.specs.declared.Open.the-variants.{At, Closed}
 
 -- ---- a new desk
 

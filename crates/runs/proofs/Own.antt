@@ -17,22 +17,22 @@ use Rattle.settle.specs.declared.Settled.{Settled}
 use Rattle.settle.specs.Settle.{judgedOf}
 use Rattle.ledger.specs.declared.Row.{Row}
 use Rattle.ledger.specs.declared.Desk.{Desk}
-use Rattle.desk.specs.declared.Outcome.{Outcome}
-use Rattle.desk.specs.declared.Answer.the-variants.{Ticket, Shown, State}
-use Rattle.desk.specs.declared.Open.{Open}
-use Rattle.desk.specs.declared.Open.the-variants.{At, Closed}
+use Rattle.runs.specs.declared.Outcome.{Outcome}
+use Rattle.runs.specs.declared.Answer.the-variants.{Ticket, Shown, State}
+use Rattle.runs.specs.declared.Open.{Open}
+use Rattle.runs.specs.declared.Open.the-variants.{At, Closed}
 use Rattle.ledger.specs.Rows.{due, row, counted, held, ofCaller, vacant, tally, lowest}
-use Rattle.desk.specs.Model.{newDesk, answers, refuse, Query, queryOf, bracketOf, halve, settle, fresh, openOf, emptied, peekAt, collectAt, peekOf, collectOf}
+use Rattle.runs.specs.Model.{newDesk, answers, refuse, Query, queryOf, bracketOf, halve, settle, fresh, openOf, emptied, peekAt, collectAt, peekOf, collectOf}
 use Rattle.settle.proofs.Phases.{phase-kept}
 use Rattle.ledger.proofs.Tests.{held-is, is-held}
 use Rattle.ledger.proofs.Changes.{row-here, row-each}
 use Rattle.ledger.proofs.Good.{Good, good-sound}
-use Rattle.desk.proofs.Tickets.{Seat, open-seat, seat-open}
-use Rattle.desk.specs.Runs.{Call, post, peek, collect, step, afterFrom, after, answerTo, isTurn, turns, enough, OpenFor, asked, HalvedTo, JustPosted, SettledTo}
-use Rattle.desk.proofs.Runs.Round.{ahead-lt}
-use Rattle.desk.proofs.Runs.Posts.{Job, Ruling, against, given, Granted, rulingAt, seats, post-ruled, ruling-given}
-use Rattle.desk.proofs.Runs.Kept.{good-step, good-new, was-given, seat-free, counts-wide}
-use Rattle.desk.proofs.Runs.Fair.{Fits, Tracked, aged, tracked-step}
+use Rattle.runs.proofs.Tickets.{Seat, open-seat, seat-open}
+use Rattle.runs.specs.Runs.{Call, post, peek, collect, step, afterFrom, after, answerTo, isTurn, turns, enough, OpenFor, asked, HalvedTo, JustPosted, SettledTo}
+use Rattle.runs.proofs.Round.{ahead-lt}
+use Rattle.runs.proofs.Posts.{Job, Ruling, against, given, Granted, rulingAt, seats, post-ruled, ruling-given}
+use Rattle.runs.proofs.Kept.{good-step, good-new, was-given, seat-free, counts-wide}
+use Rattle.runs.proofs.Fair.{Fits, Tracked, aged, tracked-step}
 
 -- ---- runs
 

@@ -3,12 +3,12 @@ use mathlib.Core.Path.{_≡_, refl}
 use Prim.Native.Nat.{ℕ}
 use Rattle.ledger.specs.declared.Row.{Row}
 use Rattle.ledger.specs.Rows.{held, ofCaller}
-use Rattle.desk.specs.Model.{halvedRow}
-use Rattle.desk.specs.Runs.{HalvedOnce}
+use Rattle.runs.specs.Model.{halvedRow}
+use Rattle.runs.specs.Runs.{HalvedOnce}
 
 pub halved-once : (r : Row) → HalvedOnce r (halvedRow r)
 unfolding halvedRow
-halved-once r = record { same-query = refl; one-more = refl; own-bracket = refl }
+halved-once r = record { same-ticket = (refl, refl, refl); same-region = refl; same-query = refl; one-more = refl; own-bracket = refl }
 
 module _ (c : ℕ) (r : Row) where
   pub of-halved : ofCaller c (halvedRow r) ≡ ofCaller c r

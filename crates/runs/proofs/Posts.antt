@@ -12,12 +12,12 @@ use Rattle.settle.specs.declared.Judged.{Judged}
 use Rattle.settle.specs.declared.Judged.the-variants.{Refused, Within}
 use Rattle.settle.specs.Settle.{judgedOf}
 use Rattle.ledger.specs.declared.Desk.{Desk}
-use Rattle.desk.specs.declared.Outcome.{Outcome}
-use Rattle.desk.specs.declared.Answer.the-variants.{Ticket}
+use Rattle.runs.specs.declared.Outcome.{Outcome}
+use Rattle.runs.specs.declared.Answer.the-variants.{Ticket}
 use Rattle.ledger.specs.Rows.{most, counted, ofCaller, tally, between, sound}
-use Rattle.desk.specs.Model.{answers, refuse, Query, fresh, seated, admitted, judgedPost, postOf}
+use Rattle.runs.specs.Model.{answers, refuse, Query, fresh, seated, admitted, judgedPost, postOf}
 use Rattle.ledger.proofs.Search.{and-true}
-use Rattle.desk.specs.Runs.{asked}
+use Rattle.runs.specs.Runs.{asked}
 
 -- a query as it is posted, and the bracket that it starts from
 pub record Job : Type 0 where

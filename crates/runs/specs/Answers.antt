@@ -5,9 +5,9 @@ use Prim.Native.Nat.{ℕ}
 use lib.Ieee.{Float}
 use Rattle.ledger.specs.declared.Desk.{Desk}
 use Rattle.settle.specs.declared.Settled.{Settled}
-use Rattle.desk.specs.declared.Answer.{Answer}
-use Rattle.desk.specs.declared.Answer.the-variants as Answer
-use Rattle.desk.specs.declared.Outcome.{Outcome}
+use Rattle.runs.specs.declared.Answer.{Answer}
+use Rattle.runs.specs.declared.Answer.the-variants as Answer
+use Rattle.runs.specs.declared.Outcome.{Outcome}
 
 -- the refusal, 0 if there is none
 abbrev pub numberOf : Answer → ℕ

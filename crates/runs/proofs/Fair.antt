@@ -11,15 +11,15 @@ use Rattle.brackets.specs.declared.Bracket.{Bracket}
 use Rattle.ledger.specs.declared.Row.{Row}
 use Rattle.ledger.specs.declared.Desk.{Desk}
 use Rattle.ledger.specs.Rows.{due, blank, row, counted, held, vacant, unfinished, lowest}
-use Rattle.desk.specs.Model.{fresh, Query, queryOf, bracketOf, halve, halvedRow, next, past, turnedAt}
+use Rattle.runs.specs.Model.{fresh, Query, queryOf, bracketOf, halve, halvedRow, next, past, turnedAt}
 use Rattle.ledger.proofs.Tests.{held-is, held-empty, unfinished-is, is-unfinished}
-use Rattle.desk.proofs.Halved.{held-halved}
+use Rattle.runs.proofs.Halved.{held-halved}
 use Rattle.ledger.proofs.Changes.{row-each, counts-each, onward-true, onward-le}
 use Rattle.ledger.proofs.Good.{Good}
-use Rattle.desk.specs.Runs.{Call, step, isTurn}
-use Rattle.desk.proofs.Runs.Round.{ahead, ahead-lt, ahead-back, ahead-next}
-use Rattle.desk.proofs.Runs.Posts.{Job}
-use Rattle.desk.proofs.Runs.Kept.{Effect, kept, idled, turned, seated, freed, effect, held-fresh, seat-free, counts-wide}
+use Rattle.runs.specs.Runs.{Call, step, isTurn}
+use Rattle.runs.proofs.Round.{ahead, ahead-lt, ahead-back, ahead-next}
+use Rattle.runs.proofs.Posts.{Job}
+use Rattle.runs.proofs.Kept.{Effect, kept, idled, turned, seated, freed, effect, held-fresh, seat-free, counts-wide}
 
 -- a row of job j, `age` turns after its post
 pub record Fits (j : Job) (age pointer i : ℕ) (r : Row) : Type 0 where

@@ -13,21 +13,21 @@ use Rattle.settle.specs.declared.Settled.{Settled}
 use Rattle.settle.proofs.Phases.{phase-region}
 use Rattle.ledger.specs.declared.Row.{Row}
 use Rattle.ledger.specs.declared.Desk.{Desk}
-use Rattle.desk.specs.declared.Answer.the-variants as Answer
-use Rattle.desk.specs.declared.Open.{Open}
-use Rattle.desk.specs.declared.Open.the-variants.{At, Closed}
+use Rattle.runs.specs.declared.Answer.the-variants as Answer
+use Rattle.runs.specs.declared.Open.{Open}
+use Rattle.runs.specs.declared.Open.the-variants.{At, Closed}
 use Rattle.ledger.specs.Search.{bit}
 use Rattle.ledger.specs.Rows.{due, most, blank, row, counted, held, ofCaller, vacant, unfinished, tally, lowest, put}
-use Rattle.desk.specs.Model.{newDesk, answers, refuse, fresh, halvedRow, next, past, turnedAt, turnOf, openOf, emptied, peekAt, collectAt, withdrawAt, peekOf, collectOf, withdrawOf}
+use Rattle.runs.specs.Model.{newDesk, answers, refuse, fresh, halvedRow, next, past, turnedAt, turnOf, openOf, emptied, peekAt, collectAt, withdrawAt, peekOf, collectOf, withdrawOf}
 use Rattle.ledger.proofs.Search.{not-some, count-zero}
 use Rattle.ledger.proofs.Tests.{of-is, of-empty, held-is, held-empty, unfinished-is, Right}
-use Rattle.desk.proofs.Halved.{of-halved, held-halved}
+use Rattle.runs.proofs.Halved.{of-halved, held-halved}
 use Rattle.ledger.proofs.Changes.{row-each, tally-put, counts-each, onward-true}
 use Rattle.ledger.proofs.Good.{Good, good-sound, free-row}
 use Rattle.ledger.proofs.Lists.{noughts}
-use Rattle.desk.proofs.Tickets.{Seat, open-seat}
-use Rattle.desk.specs.Runs.{Call, post, turn, peek, collect, withdraw, step, asks, isTurn}
-use Rattle.desk.proofs.Runs.Posts.{Job, Ruling, against, given, Granted, rulingAt, seats, onRuling, post-ruled, ruling-given}
+use Rattle.runs.proofs.Tickets.{Seat, open-seat}
+use Rattle.runs.specs.Runs.{Call, post, turn, peek, collect, withdraw, step, asks, isTurn}
+use Rattle.runs.proofs.Posts.{Job, Ruling, against, given, Granted, rulingAt, seats, onRuling, post-ruled, ruling-given}
 
 -- ---- each change keeps a sound desk sound
 

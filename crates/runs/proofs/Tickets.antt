@@ -6,9 +6,9 @@ use native.Mathlib.Omega.{arith}
 use lib.Dec.{ltb}
 use borrow.Author.Tests.{ltb-true, lt-ltb}
 use Rattle.ledger.specs.declared.Desk.{Desk}
-use Rattle.desk.specs.declared.Open.the-variants.{At, Closed}
+use Rattle.runs.specs.declared.Open.the-variants.{At, Closed}
 use Rattle.ledger.specs.Rows.{row, held, tally, lowest, sound}
-use Rattle.desk.specs.Model.{openOf}
+use Rattle.runs.specs.Model.{openOf}
 use Rattle.ledger.proofs.Search.{counted-once}
 use Rattle.ledger.proofs.Changes.{lowest-true, lowest-le}
 use Rattle.ledger.proofs.Good.{Good}
