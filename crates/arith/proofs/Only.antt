@@ -12,12 +12,6 @@ use Rattle.arith.proofs.bits.is_finite.Kinds as is-finite-kinds
 use Rattle.arith.proofs.bits.is_finite.Reads as is-finite
 use Rattle.arith.proofs.powers.power.Kinds as power-kinds
 use Rattle.arith.proofs.powers.power.Reads as power
-use Rattle.arith.proofs.roots.root.Kinds as root-kinds
-use Rattle.arith.proofs.roots.root.Reads as root
-use Rattle.arith.proofs.roots.fourth_root.Kinds as fourth-root-kinds
-use Rattle.arith.proofs.roots.fourth_root.Reads as fourth-root
-use Rattle.arith.proofs.logs.log.Kinds as log-kinds
-use Rattle.arith.proofs.logs.log.Reads as log
 
 -- A promise that leaves one result: for a function of n lifetimes, parameters ps and a result r, whatever the arguments are.
 abbrev pub Only : (n : ℕ) (ps : List (PK n)) (r : RK n) → Out n ps r → Type 0
@@ -31,12 +25,3 @@ is-finite-only κs a x y s t p q = p ∙ sym q
 
 pub power-only : Only 0 power-kinds.ps power-kinds.r power.Post
 power-only κs a x y s t p q = p ∙ sym q
-
-pub root-only : Only 0 root-kinds.ps root-kinds.r root.Post
-root-only κs a x y s t p q = p ∙ sym q
-
-pub fourth-root-only : Only 0 fourth-root-kinds.ps fourth-root-kinds.r fourth-root.Post
-fourth-root-only κs a x y s t p q = p ∙ sym q
-
-pub log-only : Only 0 log-kinds.ps log-kinds.r log.Post
-log-only κs a x y s t p q = p ∙ sym q

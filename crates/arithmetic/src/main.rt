@@ -1,4 +1,5 @@
-// What arith makes of the numbers on standard input, bit for bit, for comparing with another program.
+// What arith and elementary make of the numbers on standard input, bit for bit, for comparing with another
+// program.
 // A record is 16 bytes, two little-endian words: the bits of x, and k, whose low byte is an exponent
 // as a signed byte. At most 65,536 bytes are read; a record cut short is passed over. A line a record:
 // x, k, x^k, root, fourth root and logarithm of x, and 1 where x is finite.
@@ -38,11 +39,11 @@ fn print_line(x: f64, k: u64) {
     io::write_all(1, b" ");
     print_float(arith::power(x, signed(k)));
     io::write_all(1, b" ");
-    print_float(arith::root(x));
+    print_float(elementary::root(x));
     io::write_all(1, b" ");
-    print_float(arith::fourth_root(x));
+    print_float(elementary::fourth_root(x));
     io::write_all(1, b" ");
-    print_float(arith::log(x));
+    print_float(elementary::log(x));
     if arith::is_finite(x) {
         io::write_all(1, b" 1\n");
     } else {

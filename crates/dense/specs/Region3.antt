@@ -6,7 +6,7 @@ use lib.Ieee.{Float, neg}
 use Rattle.arith.specs.F64.{f64, _⊕_, _⊖_, _⊗_, _⊘_}
 use Rattle.arith.specs.Printed.{less, printed}
 use Rattle.arith.specs.Coefficients.{plus, minus}
-use Rattle.arith.specs.Log.{logOf}
+use Rattle.elementary.specs.Log.{logOf}
 use Rattle.terms.specs.Sum.{Term, row}
 use Rattle.terms.specs.Six.{sixOf}
 use Rattle.terms.specs.declared.Six.{Six}

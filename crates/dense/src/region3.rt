@@ -190,7 +190,7 @@ impl Region3 {
     fn phi_of(x: DensePoint, s: Six) -> Dense
         ensures { λ r. ⌜ r ≡ phiOf3 x s ⌝ }
     {
-        let log = arith::log(x.delta);
+        let log = elementary::log(x.delta);
         let fd = Self::slope_of(x, s.fa);
         Dense {
             f: Self::N1 * log + s.f,

@@ -83,9 +83,9 @@ fn queried(operation: u8, x: f64) -> f64 {
 // and none is below 0.
 fn worked(operation: u8, x: f64) -> f64 {
     match operation {
-        b'r' => arith::root(x),
-        b'f' => arith::fourth_root(x),
-        b'l' => arith::log(30.0 * x),
+        b'r' => elementary::root(x),
+        b'f' => elementary::fourth_root(x),
+        b'l' => elementary::log(30.0 * x),
         b'p' => arith::power(x, 17),
         b'1' => sum_of(Region1::state(x, 300.0 + 10.0 * x)),
         b'2' => sum_of(Region2::state(x, 700.0 + 10.0 * x)),

@@ -2,7 +2,7 @@
 use mathlib.Core.Path.{_≡_, refl}
 use lib.Ieee.{binary64, round, ofBits, ofInt, add, sub, mul, div, neg}
 use Rattle.arith.specs.Printed.{printed}
-use Rattle.arith.specs.Root.{floorRoot, nearRoot, rootUnits, rootOf}
+use Rattle.elementary.specs.Root.{floorRoot, nearRoot, rootUnits, rootOf}
 use Rattle.saturation.specs.Saturation.{psOf}
 use Rattle.places.specs.Places.{pEnd}
 

@@ -2,7 +2,7 @@
 -- R·T is formed first. Definitions only.
 use lib.Ieee.{Float, neg}
 use Rattle.arith.specs.F64.{f64, _⊕_, _⊖_, _⊗_, _⊘_}
-use Rattle.arith.specs.Root.{rootOf}
+use Rattle.elementary.specs.Root.{rootOf}
 use Rattle.properties.specs.declared.State.{State}
 use Rattle.properties.specs.declared.Unrooted.{Unrooted}
 use Rattle.properties.specs.declared.Point.{Point}

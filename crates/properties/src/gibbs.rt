@@ -58,6 +58,6 @@ pub fn rooted(a: Unrooted) -> State
         h: a.h,
         s: a.s,
         cp: a.cp,
-        w: arith::root(a.ww),
+        w: elementary::root(a.ww),
     }
 }

@@ -4,7 +4,7 @@ use lib.IntN.{pos}
 use lib.Ieee.{Float}
 use Rattle.arith.specs.F64.{_⊕_, _⊖_, _⊗_, _⊘_}
 use Rattle.arith.specs.Printed.{less}
-use Rattle.arith.specs.Root.{rootOf}
+use Rattle.elementary.specs.Root.{rootOf}
 use Rattle.arith.specs.Coefficients.{plus, minus}
 
 -- The form of Eqs. (10) and (41): n₁ + n₂·x + n₃·x²

@@ -3,7 +3,7 @@ use lib.IntN.{pos}
 use lib.Ieee.{Float, neg}
 use Rattle.arith.specs.F64.{f64, _⊕_, _⊖_, _⊗_, _⊘_}
 use Rattle.arith.specs.Printed.{less}
-use Rattle.arith.specs.Root.{rootOf, fourthRootOf}
+use Rattle.elementary.specs.Root.{rootOf, fourthRootOf}
 use Rattle.arith.specs.Coefficients.{plus, minus}
 
 -- Table A11

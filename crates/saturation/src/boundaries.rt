@@ -24,7 +24,7 @@ pub fn p_b23(t: f64) -> f64
 pub fn t_b23(p: f64) -> f64
     ensures { λ r. ⌜ r ≡ tB23 p ⌝ }
 {
-    0.57254459862746e3 + arith::root((p - 0.13918839778870e2) / N3)
+    0.57254459862746e3 + elementary::root((p - 0.13918839778870e2) / N3)
 }
 
 // The pressure in MPa between subregions 2b and 2c at h in kJ/kg, as printed at any h.

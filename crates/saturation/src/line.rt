@@ -1,6 +1,6 @@
 // The saturation line: 002, Eqs. (28) and (55), Table A11 (specs/Saturation.antt).
-use arith::fourth_root;
-use arith::root;
+use elementary::fourth_root;
+use elementary::root;
 ghost use mathlib.Core.Path.{_≡_};
 ghost use Rattle.saturation.specs.Saturation.{psOf, tsOf};
 

@@ -3,7 +3,7 @@
 use mathlib.Core.List.{List}
 use lib.Ieee.{Float}
 use Rattle.arith.specs.F64.{f64, _⊕_, _⊖_, _⊗_, _⊘_}
-use Rattle.arith.specs.Log.{logOf}
+use Rattle.elementary.specs.Log.{logOf}
 use Rattle.terms.specs.Sum.{Term}
 use Rattle.terms.specs.Six.{sixOf}
 use Rattle.terms.specs.declared.Six.{Six}

@@ -12,7 +12,7 @@ ghost use Rattle.vapour.specs.Vapour.{gibbsOf, vapourOf, vapourUnrooted,
 pub fn gibbs(pi: f64, ideal: f64, residual: f64) -> f64
     ensures { λ r. ⌜ r ≡ gibbsOf pi ideal residual ⌝ }
 {
-    arith::log(pi) + ideal + residual
+    elementary::log(pi) + ideal + residual
 }
 
 // The ideal-gas part and the residual part added, from the sums of each.

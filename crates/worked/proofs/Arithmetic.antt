@@ -5,8 +5,8 @@ use lib.IntN.{pos}
 use lib.Ieee.{binary64, size, odd, round, ofInt, ofBits, add, sub, mul, div}
 use Rattle.arith.specs.Printed.{less, printed, coefficient}
 use Rattle.arith.specs.Power.{raised, powerOf}
-use Rattle.arith.specs.Root.{floorRoot, nearRoot, rootUnits, rootOf}
-use Rattle.arith.specs.Log.{ln2, series, logSum, partsAt, partsOf, logUnits, logOf}
+use Rattle.elementary.specs.Root.{floorRoot, nearRoot, rootUnits, rootOf}
+use Rattle.elementary.specs.Log.{ln2, series, logSum, partsAt, partsOf, logUnits, logOf}
 
 -- -0.37563603672040 · 10^1, and 16.53
 coefficient-printed : coefficient 14 true 37563603672040 (pos 1) ≡ ofBits binary64 0xc00e_0d06_aa09_0dc9

@@ -9,7 +9,7 @@ use lib.Ieee.{Float, binary64, round, ofInt, lt, le, add, sub, mul, div}
 use Rattle.arith.specs.F64.{f64}
 use Rattle.arith.specs.Printed.{less, printed}
 use Rattle.arith.specs.Power.{raised, powerOf}
-use Rattle.arith.specs.Root.{floorRoot, nearRoot, rootUnits, rootOf, fourthRootOf}
+use Rattle.elementary.specs.Root.{floorRoot, nearRoot, rootUnits, rootOf, fourthRootOf}
 use Rattle.terms.specs.Sum.{sumOf, sumFrom, plus, term, gone, scaled}
 use Rattle.saturation.specs.Boundaries.{p2bc}
 use Rattle.backward.specs.Equation.{sumAt}

@@ -7,8 +7,8 @@ use lib.Ieee.{binary64, round, add, sub, mul, div, neg, ofInt, ofBits}
 use Rattle.arith.specs.F64.{f64}
 use Rattle.arith.specs.Printed.{printed, less}
 use Rattle.arith.specs.Power.{raised, powerOf}
-use Rattle.arith.specs.Root.{rootOf, rootUnits, nearRoot, floorRoot, fourthRootOf}
-use Rattle.arith.specs.Log.{logOf, logUnits, partsOf, partsAt, logSum, series, ln2}
+use Rattle.elementary.specs.Root.{rootOf, rootUnits, nearRoot, floorRoot, fourthRootOf}
+use Rattle.elementary.specs.Log.{logOf, logUnits, partsOf, partsAt, logSum, series, ln2}
 use Rattle.terms.specs.Sum.{sumOf, sumFrom, plus, term, gone, scaled}
 use Rattle.terms.specs.Six.{sixOf}
 use Rattle.properties.specs.Properties.{unrootedOf, rootedOf}

@@ -3,7 +3,7 @@ use mathlib.Core.Path.{_≡_, refl}
 use lib.Ieee.{round, ofInt, ofBits}
 use borrow.Author.Needs.{needs}
 use Rattle.arith.specs.Printed.{printed}
-use Rattle.arith.specs.Root.{rootOf}
+use Rattle.elementary.specs.Root.{rootOf}
 use Rattle.saturation.specs.Saturation.{θOf, discriminant, psOf}
 use Rattle.saturation.proofs.line.ps.Statement.{statement}
 use Rattle.saturation.proofs.line.ps.Tie as tie
