@@ -16,7 +16,7 @@ fn listed(sheet: &[u8], room: &mut [u8; ROOM]) -> usize
 }
 
 fn main() {
-    let mut input = [0u8; 28113];
+    let mut input = [0u8; listing::INPUT];
     let n = io::read_full(0, &mut input);
     let mut room = [0u8; ROOM];
     let end = listed(&input[..n], &mut room);

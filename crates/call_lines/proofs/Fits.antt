@@ -1,7 +1,9 @@
 -- The line of a call is short: it fits a room of 210 bytes. Assumes nothing.
 use Prim.Native.Nat.{ℕ, _≤_}
 use native.Mathlib.Omega.{arith}
-use lib.ListN.{length, length-append}
+use mathlib.Core.List.{[], _∷_}
+use lib.ListN.{length, length-append, replicate}
+use Rattle.text.specs.Texts.{columnOf}
 use Rattle.text.specs.declared.Cell.the-variants.{Value}
 use Rattle.text.proofs.Lengths.{digits, column-short}
 use Rattle.equations.specs.Equations.{regionOf}
@@ -11,24 +13,25 @@ use Rattle.runs.specs.declared.Answer.{Answer}
 use Rattle.runs.specs.declared.Answer.the-variants.{Refused, Ticket, Halved, Idle, Shown, State, Freed}
 use Rattle.records.specs.declared.Call.{Call}
 use Rattle.records.specs.declared.Call.the-variants.{Post, Peek, Collect, Withdraw}
-use Rattle.call_lines.specs.Lines.{nameOf, refusedOf, stateColumns, answerOf, callLine}
+use Rattle.call_lines.specs.Lines.{stateColumns, widthOf, handedOf, lineOf, nameOf, answerOf, callLine}
+use Rattle.call_lines.proofs.Pieces.{of-ticket, of-bracket, of-state, of-halved, of-idle, of-freed}
 
-name-short : (call : Call) → length (nameOf call) ≤ 9
+name-short : (call : Call) → length (nameOf call) ≤ 8
 unfolding nameOf
 name-short (Post caller kind p y) = omega arith
 name-short (Peek caller ticket) = omega arith
 name-short (Collect caller ticket) = omega arith
 name-short (Withdraw caller ticket) = omega arith
 
-refused-short : (call : Call) (n : ℕ) → length (refusedOf call n) ≤ 41
-unfolding refusedOf
-refused-short (Post caller kind p y) n = simp length-append (omega (arith, digits n))
-refused-short (Peek caller ticket) n = simp length-append (omega (arith, digits n))
-refused-short (Collect caller ticket) n = simp length-append (omega (arith, digits n))
-refused-short (Withdraw caller ticket) n = simp length-append (omega (arith, digits n))
+dashes-short : (call : Call) → length (lineOf (replicate (widthOf call) (45 ∷ []))) ≤ 21
+unfolding widthOf lineOf
+dashes-short (Post caller kind p y) = omega arith
+dashes-short (Peek caller ticket) = omega arith
+dashes-short (Collect caller ticket) = omega arith
+dashes-short (Withdraw caller ticket) = omega arith
 
-state-short : (a : Single) → length (stateColumns a) ≤ 178
-unfolding stateColumns
+state-short : (a : Single) → length (lineOf (stateColumns a)) ≤ 179
+unfolding stateColumns lineOf columnOf
 state-short a =
     simp length-append
     (omega (
@@ -45,15 +48,19 @@ state-short a =
       column-short (Value (a .state .w)),
     ))
 
+refused-short : (call : Call) (n : ℕ) → length (answerOf call (Refused n)) ≤ 41
+unfolding answerOf handedOf
+refused-short call n = simp length-append (omega (arith, digits n, dashes-short call))
+
 answer-short : (call : Call) (a : Answer) → length (answerOf call a) ≤ 180
-unfolding answerOf
 answer-short call (Refused n) = omega (arith, refused-short call n)
-answer-short call (Ticket t) = simp length-append (omega (arith, digits t))
-answer-short call Halved = omega arith
-answer-short call Idle = omega arith
-answer-short call (Shown n lo hi) = simp length-append (omega (arith, digits n, column-short (Value lo), column-short (Value hi)))
-answer-short call (State s) = simp length-append (omega (arith, state-short (s .single)))
-answer-short call Freed = omega arith
+answer-short call (Ticket t) = rw (← of-ticket call t) (simp length-append (omega (arith, digits t)))
+answer-short call Halved = rw (← of-halved call) (omega arith)
+answer-short call Idle = rw (← of-idle call) (omega arith)
+answer-short call (Shown n lo hi) =
+    rw (← of-bracket call n lo hi) (simp length-append (omega (arith, digits n, column-short (Value lo), column-short (Value hi))))
+answer-short call (State s) = rw (← of-state call s) (omega (arith, state-short (s .single)))
+answer-short call Freed = rw (← of-freed call) (omega arith)
 
 pub call-short : (number : ℕ) (call : Call) (a : Answer) → length (callLine number call a) ≤ 210
 unfolding callLine

@@ -6,10 +6,11 @@ use states::Single;
 use text::Cell;
 ghost use mathlib.Core.Path.{_≡_};
 ghost use mathlib.Core.List.{[], _∷_, _++_};
+ghost use lib.ListN.{replicate};
 ghost use Rattle.text.specs.Room.{Written};
-ghost use Rattle.text.specs.Texts.{blank, newline, numberColumn, floatColumn};
+ghost use Rattle.text.specs.Texts.{decimalOf, blank, newline, numberColumn, floatColumn};
 ghost use Rattle.ledger.specs.Search.{bit};
-ghost use Rattle.call_lines.specs.Lines.{nameOf, refusedOf, stateColumns, answerOf, callLine};
+ghost use Rattle.call_lines.specs.Lines.{stateColumns, widthOf, lineOf, nameOf, answerOf, callLine};
 
 // A mark as a number.
 fn bit(mark: bool) -> u64
@@ -28,7 +29,7 @@ fn numbered(n: u64, words: &[u8], out: &mut [u8], at: usize) -> usize
 
 // Writes a line's number and the name of its call.
 fn named(number: u64, call: Call, out: &mut [u8]) -> usize
-    ensures { λ r. ⌜ Written (now (out .entry)) 0 (numberColumn number blank ++ nameOf call) (now (out .exit)) r ⌝ }
+    ensures { λ r. ⌜ Written (now (out .entry)) 0 (numberColumn number blank ++ (nameOf call ++ blank ∷ [])) (now (out .exit)) r ⌝ }
 {
     match call {
         Call::Post {
@@ -54,7 +55,7 @@ fn named(number: u64, call: Call, out: &mut [u8]) -> usize
 
 // Writes a refusal, and `-` for each thing that the call would have handed out.
 fn refused(call: Call, n: u64, out: &mut [u8], at: usize) -> usize
-    ensures { λ r. ⌜ Written (now (out .entry)) at (refusedOf call n) (now (out .exit)) r ⌝ }
+    ensures { λ r. ⌜ Written (now (out .entry)) at (decimalOf n ++ lineOf (replicate (widthOf call) (45 ∷ []))) (now (out .exit)) r ⌝ }
 {
     match call {
         Call::Post {
@@ -96,12 +97,13 @@ fn bracket(halvings: u64, lo: f64, hi: f64, out: &mut [u8], at: usize) -> usize
     text::column(Cell::Value(hi), b'\n', out, at)
 }
 
-// Writes region, mark and values of a state.
-fn state(s: Single, out: &mut [u8], at: usize) -> usize
-    ensures { λ r. ⌜ Written (now (out .entry)) at (stateColumns s) (now (out .exit)) r ⌝ }
+// Writes that nothing is refused, and region, mark and values of a state.
+fn collected(s: Single, out: &mut [u8], at: usize) -> usize
+    ensures { λ r. ⌜ Written (now (out .entry)) at (48 ∷ lineOf (stateColumns s)) (now (out .exit)) r ⌝ }
 {
     let q = s.state;
     let equation = s.equation;
+    let at = text::bytes(b"0 ", out, at);
     let at = text::decimal(region_of(equation), b' ', out, at);
     let at = text::decimal(bit(s.verified), b' ', out, at);
     let at = text::column(Cell::Value(s.p), b' ', out, at);
@@ -114,15 +116,7 @@ fn state(s: Single, out: &mut [u8], at: usize) -> usize
     text::column(Cell::Value(q.w), b'\n', out, at)
 }
 
-// Writes that nothing is refused, and a state.
-fn collected(s: Single, out: &mut [u8], at: usize) -> usize
-    ensures { λ r. ⌜ Written (now (out .entry)) at ((48 ∷ blank ∷ []) ++ stateColumns s) (now (out .exit)) r ⌝ }
-{
-    let at = text::bytes(b"0 ", out, at);
-    state(s, out, at)
-}
-
-// Writes what a call handed out.
+// Writes the refusal or 0, and what a call handed out.
 fn answered(call: Call, answer: Answer, out: &mut [u8], at: usize) -> usize
     ensures { λ r. ⌜ Written (now (out .entry)) at (answerOf call answer) (now (out .exit)) r ⌝ }
 {

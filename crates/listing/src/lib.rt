@@ -10,6 +10,8 @@ pub use derivatives::quotients;
 pub use derivatives::quotients_head;
 pub use listings::answers;
 pub use listings::regions;
+pub use opening::INPUT;
+pub use opening::LONGEST;
 pub use opening::triples;
 
 // The two listings that have a line a row.

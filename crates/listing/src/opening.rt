@@ -5,7 +5,10 @@ ghost use lib.ListN.{take};
 ghost use Rattle.listing.specs.Listings.{openedOf, triplesOf};
 
 // The longest sheet: a note of 4,096 bytes, 1,000 rows of 24 and the trailer of 16.
-const LONGEST: usize = 28112;
+pub const LONGEST: usize = 28112;
+
+// How much a program reads: a byte more, so that a longer input is seen to be longer.
+pub const INPUT: usize = LONGEST + 1;
 
 // Reads a sheet; what is longer than any is refused by 23.
 pub(crate) fn opened(sheet: &[u8]) -> Reading

@@ -1,5 +1,7 @@
--- What a place says in the paper's words: its number and region for each case. Definitions only.
+-- What a place says in the paper's words: its number and region for each case, and the T of a wet one. Definitions only.
 use Prim.Native.Nat.{ℕ}
+use mathlib.Core.List.{List, [], _∷_}
+use lib.Ieee.{Float}
 use Rattle.equations.specs.Equations as Equations
 use Rattle.equations.specs.Equations.{equationOf}
 use Rattle.places.specs.declared.Place.{Place}
@@ -28,3 +30,9 @@ abbrev pub sideRegionOf : Side → ℕ
 sideRegionOf (Side.Phase phase) = Equations.regionOf (equationOf phase)
 sideRegionOf (Side.Wet t) = 4
 sideRegionOf (Side.Refused n) = 0
+
+-- Ts(p) of a wet place; no other has a value
+abbrev pub sideValuesOf : Side → List Float
+sideValuesOf (Side.Phase phase) = []
+sideValuesOf (Side.Wet t) = t ∷ []
+sideValuesOf (Side.Refused n) = []

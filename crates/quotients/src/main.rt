@@ -46,7 +46,7 @@ fn print(sheet: &[u8]) -> usize
 }
 
 fn main() {
-    let mut input = [0u8; 28113];
+    let mut input = [0u8; listing::INPUT];
     let n = io::read_full(0, &mut input);
     print(&input[..n]);
 }

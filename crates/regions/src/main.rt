@@ -3,8 +3,8 @@
 ghost use Rattle.text.specs.Room.{Whole};
 ghost use Rattle.listing.specs.Listings.{regionsText};
 
-// No listing is longer: a sheet has at most 1,000 rows, and a row one line of at most 239 bytes; there is
-// space for 2,500.
+// No listing is longer: a sheet has at most 1,000 rows, and a row one line of at most 84 bytes; there is
+// space for 7,000.
 const ROOM: usize = 600000;
 
 // Writes the listing of any bytes: this room holds every one, so that none is cut.
@@ -15,7 +15,7 @@ fn listed(sheet: &[u8], room: &mut [u8; ROOM]) -> usize
 }
 
 fn main() {
-    let mut input = [0u8; 28113];
+    let mut input = [0u8; listing::INPUT];
     let n = io::read_full(0, &mut input);
     let mut room = [0u8; ROOM];
     let end = listed(&input[..n], &mut room);

@@ -1,18 +1,18 @@
 -- The lines of the sheet programs, as bytes of ASCII: columns with a blank between them, and a newline at the end. Definitions only.
 use Prim.Native.Nat.{ℕ, _+_, _*_, _/_}
-use mathlib.Core.Bool.{Bool, true, false}
+use mathlib.Core.Bool.{Bool, true, false, cond}
 use mathlib.Core.List.{List, [], _∷_, _++_}
+use lib.Dec.{eqb}
 use lib.ListN.{length, getD}
 use Rattle.arith.specs.Bits.{floatOf}
 use Rattle.text.specs.Texts.{columnOf, blank, newline, numberColumn, joined}
 use Rattle.text.specs.declared.Cell.{Cell}
 use Rattle.text.specs.declared.Cell.the-variants as Cell
 use Rattle.sheet.specs.declared.rows.Point.{Point}
-use Rattle.reply.specs.Answers.{numberOf, regionOf, valuesOf}
+use Rattle.reply.specs.Answers.{numberOf, regionOf, markOf, valuesOf}
 use Rattle.sums.specs.Queries.{answerOf}
 use Rattle.sums.specs.Quotients.{quotientOf}
 use Rattle.reply.specs.declared.Answer.{Answer}
-use Rattle.reply.specs.declared.Answer.the-variants as Answer
 use Rattle.properties.specs.declared.Value.{Value}
 use Rattle.properties.specs.declared.Value.the-variants.{Is, Missing}
 use Rattle.slopes.specs.Answers as Slopes
@@ -34,15 +34,13 @@ verdictOf number kind a end = numberColumn number blank ++ numberColumn kind bla
 abbrev pub regionLine : ℕ → Point → List ℕ
 regionLine number row = verdictOf number (row .kind) (askedOf row) newline
 
--- the mark of a state: `1` verified, `0` not; `-` for a refusal
+-- the mark of a state: `1` verified, `0` not; `-` for a refusal, which has no region
 abbrev pub digitOf : Bool → ℕ
 digitOf true = 49
 digitOf false = 48
 
 abbrev pub markByte : Answer → ℕ
-markByte (Answer.Single a) = digitOf (a .verified)
-markByte (Answer.Wet a) = digitOf (a .verified)
-markByte (Answer.Refused n) = 45
+markByte a = cond (eqb (regionOf a) 0) 45 (digitOf (markOf a))
 
 -- a value, or that there is none
 abbrev pub cellOf : Value → Cell

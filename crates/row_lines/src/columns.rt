@@ -43,14 +43,14 @@ fn digit(mark: bool) -> u8
     if mark { b'1' } else { b'0' }
 }
 
-// The mark of an answer: 1 verified, 0 not, and `-` for a refusal.
+// The mark of an answer: 1 verified, 0 not, and `-` for a refusal, which has no region.
 pub(crate) fn mark(a: Answer) -> u8
     ensures { λ r. ⌜ r ≡ markByte a ⌝ }
 {
-    match a {
-        Answer::Single(s) => digit(s.verified),
-        Answer::Wet(w) => digit(w.verified),
-        Answer::Refused(_) => b'-',
+    if reply::region(a) == 0 {
+        b'-'
+    } else {
+        digit(reply::mark(a))
     }
 }
 

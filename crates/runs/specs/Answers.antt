@@ -1,5 +1,6 @@
 -- What an answer of the desk says in the paper's words: its number, and the values that it hands out. Definitions only.
 use mathlib.Core.Path.{_≡_}
+use mathlib.Core.Bool.{Bool, true, false}
 use mathlib.Core.List.{List, [], _∷_}
 use Prim.Native.Nat.{ℕ}
 use lib.Ieee.{Float}
@@ -18,6 +19,15 @@ numberOf Answer.Idle = 0
 numberOf (Answer.Shown n lo hi) = 0
 numberOf (Answer.State s) = 0
 numberOf Answer.Freed = 0
+
+abbrev pub isRefused : Answer → Bool
+isRefused (Answer.Refused n) = true
+isRefused (Answer.Ticket t) = false
+isRefused Answer.Halved = false
+isRefused Answer.Idle = false
+isRefused (Answer.Shown n lo hi) = false
+isRefused (Answer.State s) = false
+isRefused Answer.Freed = false
 
 -- a ticket or a number of halvings, an end of a bracket in K, a state with its mark
 pub data Value : Type 0 where

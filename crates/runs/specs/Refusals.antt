@@ -1,10 +1,10 @@
 -- When a call of the desk is refused, and with which number: the tests of each call in the order in which they count. Definitions only.
-use mathlib.Core.Bool.{Bool, true, false, cond, not, _&&_}
+use mathlib.Core.Bool.{Bool, cond, not, _&&_}
 use mathlib.Core.List.{List, [], _∷_}
 use Prim.Native.Nat.{ℕ}
 use lib.Dec.{ltb}
 use Rattle.settle.specs.declared.Judged.{Judged}
-use Rattle.settle.specs.declared.Judged.the-variants.{Refused, Within}
+use Rattle.settle.specs.Answers.{numberOf, isRefused}
 use Rattle.settle.specs.Settle.{judgedOf}
 use Rattle.ledger.specs.declared.Desk.{Desk}
 use Rattle.ledger.specs.Rows.{due, most, row, counted, held, ofCaller, tally, lowest, between, sound}
@@ -21,8 +21,7 @@ firstOf (unless b n ∷ rest) = cond b (firstOf rest) n
 
 -- the refusal that judging a query gives
 abbrev pub judged : Judged → Test
-judged (Refused n) = unless false n
-judged (Within phase lo hi) = unless true 0
+judged j = unless (not (isRefused j)) (numberOf j)
 
 -- 15 the desk is not sound; 9 unknown caller or kind; 13 all tickets given; 10 four open; 11 the ticket is not open for this caller; 12 not ready
 abbrev pub testsOf : Desk → Call → List Test

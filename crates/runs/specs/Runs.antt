@@ -1,5 +1,5 @@
 -- What is said of runs of the desk. Definitions only; `step` is made of the definitions that the contracts of the desk's calls cite, and of nothing else.
--- A model is one caller number, which no other model uses. The theorems are in proofs/Runs/Demand.antt.
+-- A model is one caller number, which no other model uses. The theorems are in proofs/Demand.antt.
 use mathlib.Core.Path.{_≡_}
 use mathlib.Core.Bool.{Bool, true, false, cond, _&&_}
 use mathlib.Core.List.{List, [], _∷_, _++_}
@@ -109,7 +109,7 @@ OpenFor c t d = (i : ℕ) × (i < 32) × (held c t (row d i) ≡ true)
 abbrev pub Posted : ℕ → ℕ → ℕ → Float → Float → List Call → List Call → List Call → Type 0
 Posted c t kind p y pre since xs = (xs ≡ pre ++ post c kind p y ∷ since) × (answerTo pre (post c kind p y) ≡ Ticket t)
 
--- a post that gave caller c ticket t in a run; proofs/Runs/Demand shows that there is no other (`ticket-once`)
+-- a post that gave caller c ticket t in a run; proofs/Demand shows that there is no other (`ticket-once`)
 pub record Origin (c t : ℕ) (run : List Call) : Type 0 where
   pub pre : List Call
   pub since : List Call

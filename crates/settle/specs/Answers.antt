@@ -1,5 +1,6 @@
 -- What a judged post says in the paper's words: its number, region and bracket for each case. Definitions only.
 use Prim.Native.Nat.{ℕ}
+use mathlib.Core.Bool.{Bool, true, false}
 use mathlib.Core.List.{List, [], _∷_}
 use lib.Ieee.{Float}
 use Rattle.settle.specs.Phases as Phases
@@ -10,6 +11,10 @@ use Rattle.settle.specs.declared.Judged.the-variants.{Refused, Within}
 abbrev pub numberOf : Judged → ℕ
 numberOf (Refused n) = n
 numberOf (Within phase lo hi) = 0
+
+abbrev pub isRefused : Judged → Bool
+isRefused (Refused n) = true
+isRefused (Within phase lo hi) = false
 
 -- the region, 0 if refused
 abbrev pub regionOf : Judged → ℕ

@@ -10,7 +10,7 @@ ghost use Rattle.listing.specs.Listings.{longest};
 ghost use Rattle.written.specs.Written.{answerText, writtenText};
 
 // No sheet is longer.
-const ROOM: usize = 28112;
+const ROOM: usize = listing::LONGEST;
 
 // As many as asked for, and at most as many as there are.
 fn at_most(asked: u64, there: usize) -> usize

@@ -1,6 +1,6 @@
 -- `call_lines::answered` meets its contract, case by case. Assumes nothing.
 use Prim.Native.Nat.{ℕ}
-use mathlib.Core.Path.{_≡_, refl, sym, ap}
+use mathlib.Core.Path.{_≡_, sym, ap, _∙_}
 use mathlib.Core.List.{List, [], _∷_}
 use types.Run.{OneOf, miss}
 use denote.Enum.Declared.{tagOf}
@@ -10,7 +10,8 @@ use Rattle.runs.proofs.Answer as AnswerT
 use Rattle.runs.specs.declared.Answer.{Answer}
 use Rattle.runs.specs.declared.Answer.the-variants.{Refused, Ticket, Halved, Idle, Shown, State, Freed}
 use Rattle.records.specs.declared.Call.{Call}
-use Rattle.call_lines.specs.Lines.{answerOf}
+use Rattle.call_lines.specs.Lines.{handedOf, answerOf}
+use Rattle.call_lines.proofs.Pieces.{of-ticket, of-bracket, of-state, of-halved, of-idle, of-freed}
 use borrow.Author.Needs.{needs}
 use Rattle.call_lines.proofs.answered.Statement.{statement}
 use Rattle.call_lines.proofs.answered.Tie as tie
@@ -20,14 +21,13 @@ abbrev bare : List ℕ
 bare = 2 ∷ 3 ∷ 6 ∷ []
 
 no-more : (call : Call) (a : Answer) → OneOf bare (tagOf AnswerT.the-type a) → 48 ∷ newline ∷ [] ≡ answerOf call a
-unfolding answerOf
 no-more call (Refused n) h = absurd (miss bare 0 tt h)
 no-more call (Ticket t) h = absurd (miss bare 1 tt h)
-no-more call Halved h = refl
-no-more call Idle h = refl
+no-more call Halved h = of-halved call
+no-more call Idle h = of-idle call
 no-more call (Shown n lo hi) h = absurd (miss bare 4 tt h)
 no-more call (State s) h = absurd (miss bare 5 tt h)
-no-more call Freed h = refl
+no-more call Freed h = of-freed call
 
 enum-known-answer : tie.Need-enum-known-answer
 enum-known-answer c = search needs
@@ -63,7 +63,7 @@ same-length : tie.Need-same-length
 same-length c = search needs
 
 returns : tie.Need-returns
-unfolding answerOf
+unfolding answerOf handedOf
 returns c =
     let part = c .before .before in
     said (ap (answerOf _) (sym (part .before .before .before .answer .given .1))) (part .refused .ensures)
@@ -72,28 +72,25 @@ same-length-2 : tie.Need-same-length-2
 same-length-2 c = search needs
 
 returns-2 : tie.Need-returns-2
-unfolding answerOf
 returns-2 c =
     let part = c .before .before in
-    said (ap (answerOf _) (sym (part .before .before .before .answer2 .given .1))) (part .ticket .ensures)
+    said (of-ticket _ _ ∙ ap (answerOf _) (sym (part .before .before .before .answer2 .given .1))) (part .ticket .ensures)
 
 same-length-3 : tie.Need-same-length-3
 same-length-3 c = search needs
 
 returns-3 : tie.Need-returns-3
-unfolding answerOf
 returns-3 c =
     let part = c .before .before in
-    said (ap (answerOf _) (sym (part .before .before .before .answer3 .given .1))) (part .bracket .ensures)
+    said (of-bracket _ _ _ _ ∙ ap (answerOf _) (sym (part .before .before .before .answer3 .given .1))) (part .bracket .ensures)
 
 same-length-4 : tie.Need-same-length-4
 same-length-4 c = search needs
 
 returns-4 : tie.Need-returns-4
-unfolding answerOf
 returns-4 c =
     let part = c .before .before in
-    said (ap (answerOf _) (sym (part .before .before .before .before .answer4 .given .1))) (part .collected .ensures)
+    said (of-state _ _ ∙ ap (answerOf _) (sym (part .before .before .before .before .answer4 .given .1))) (part .collected .ensures)
 
 same-length-5 : tie.Need-same-length-5
 same-length-5 c = search needs

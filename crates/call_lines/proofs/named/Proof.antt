@@ -1,6 +1,6 @@
 -- `call_lines::named` meets its contract, case by case. Assumes nothing.
 use mathlib.Core.Path.{sym, ap}
-use mathlib.Core.List.{_++_}
+use mathlib.Core.List.{[], _∷_, _++_}
 use Rattle.text.specs.Texts.{blank, numberColumn}
 use Rattle.text.proofs.Pieces.{said}
 use Rattle.records.specs.declared.Call.{Call}
@@ -53,7 +53,7 @@ unfolding nameOf
 returns c =
     let words = c .before .before in
     let told = words .before .before .before in
-    said (ap (λ (call : Call). numberColumn (told .before .before .before .args .number) blank ++ nameOf call) (sym (told .enum-told .given .1)))
+    said (ap (λ (call : Call). numberColumn (told .before .before .before .args .number) blank ++ (nameOf call ++ blank ∷ [])) (sym (told .enum-told .given .1)))
     (words .numbered .ensures)
 
 same-length-2 : tie.Need-same-length-2
@@ -64,7 +64,7 @@ unfolding nameOf
 returns-2 c =
     let words = c .before .before in
     let told = words .before .before .before in
-    said (ap (λ (call : Call). numberColumn (told .before .before .before .args .number) blank ++ nameOf call) (sym (told .enum-told2 .given .1)))
+    said (ap (λ (call : Call). numberColumn (told .before .before .before .args .number) blank ++ (nameOf call ++ blank ∷ [])) (sym (told .enum-told2 .given .1)))
     (words .numbered2 .ensures)
 
 same-length-3 : tie.Need-same-length-3
@@ -75,7 +75,7 @@ unfolding nameOf
 returns-3 c =
     let words = c .before .before in
     let told = words .before .before .before in
-    said (ap (λ (call : Call). numberColumn (told .before .before .before .args .number) blank ++ nameOf call) (sym (told .enum-told3 .given .1)))
+    said (ap (λ (call : Call). numberColumn (told .before .before .before .args .number) blank ++ (nameOf call ++ blank ∷ [])) (sym (told .enum-told3 .given .1)))
     (words .numbered3 .ensures)
 
 same-length-4 : tie.Need-same-length-4
@@ -86,7 +86,7 @@ unfolding nameOf
 returns-4 c =
     let words = c .before .before in
     let told = words .before .before .before in
-    said (ap (λ (call : Call). numberColumn (told .before .before .before .args .number) blank ++ nameOf call) (sym (told .enum-told4 .given .1)))
+    said (ap (λ (call : Call). numberColumn (told .before .before .before .args .number) blank ++ (nameOf call ++ blank ∷ [])) (sym (told .enum-told4 .given .1)))
     (words .numbered4 .ensures)
 
 pub named-spec : {M : Type 1} → statement M

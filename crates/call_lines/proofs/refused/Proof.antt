@@ -1,11 +1,19 @@
 -- `call_lines::refused` meets its contract, case by case. Assumes nothing.
-use mathlib.Core.Path.{sym, ap}
+use Prim.Native.Nat.{ℕ}
+use mathlib.Core.Path.{sym, ap, _∙_}
+use mathlib.Core.List.{List, [], _∷_, _++_, append-assoc}
+use lib.ListN.{replicate}
+use Rattle.text.specs.Texts.{decimalOf, blank}
 use Rattle.text.proofs.Pieces.{said}
 use Rattle.records.specs.declared.Call.{Call}
-use Rattle.call_lines.specs.Lines.{refusedOf}
+use Rattle.call_lines.specs.Lines.{widthOf, lineOf}
 use borrow.Author.Needs.{needs}
 use Rattle.call_lines.proofs.refused.Statement.{statement}
 use Rattle.call_lines.proofs.refused.Tie as tie
+
+-- what is told of a refused call
+abbrev refusal : ℕ → Call → List ℕ
+refusal n call = decimalOf n ++ lineOf (replicate (widthOf call) (45 ∷ []))
 
 enum-told : tie.Need-enum-told
 enum-told c = search needs
@@ -44,41 +52,44 @@ same-length : tie.Need-same-length
 same-length c = search needs
 
 returns : tie.Need-returns
-unfolding refusedOf
+unfolding widthOf lineOf
 returns c =
     let dashes = c .before .before in
     let told = dashes .before .before .before in
-    said (ap (λ (call : Call). refusedOf call (told .before .before .before .args .n)) (sym (told .enum-told .given .1))) (dashes .numbered .ensures)
+    let n = told .before .before .before .args .n in
+    said (append-assoc (decimalOf n) (blank ∷ []) _ ∙ ap (refusal n) (sym (told .enum-told .given .1))) (dashes .numbered .ensures)
 
 same-length-2 : tie.Need-same-length-2
 same-length-2 c = search needs
 
 returns-2 : tie.Need-returns-2
-unfolding refusedOf
+unfolding widthOf lineOf
 returns-2 c =
     let dashes = c .before .before in
     let told = dashes .before .before .before in
-    said (ap (λ (call : Call). refusedOf call (told .before .before .before .args .n)) (sym (told .enum-told2 .given .1))) (dashes .numbered2 .ensures)
+    let n = told .before .before .before .args .n in
+    said (append-assoc (decimalOf n) (blank ∷ []) _ ∙ ap (refusal n) (sym (told .enum-told2 .given .1))) (dashes .numbered2 .ensures)
 
 same-length-3 : tie.Need-same-length-3
 same-length-3 c = search needs
 
 returns-3 : tie.Need-returns-3
-unfolding refusedOf
+unfolding widthOf lineOf
 returns-3 c =
     let dashes = c .before .before in
     let told = dashes .before .before .before in
-    said (ap (λ (call : Call). refusedOf call (told .before .before .before .args .n)) (sym (told .enum-told3 .given .1))) (dashes .numbered3 .ensures)
+    let n = told .before .before .before .args .n in
+    said (append-assoc (decimalOf n) (blank ∷ []) _ ∙ ap (refusal n) (sym (told .enum-told3 .given .1))) (dashes .numbered3 .ensures)
 
 same-length-4 : tie.Need-same-length-4
 same-length-4 c = search needs
 
 returns-4 : tie.Need-returns-4
-unfolding refusedOf
+unfolding widthOf lineOf
 returns-4 c =
     let number = c .before .before in
     let told = number .before .before in
-    said (ap (λ (call : Call). refusedOf call (told .before .before .before .args .n)) (sym (told .enum-told4 .given .1))) (number .decimal .ensures)
+    said (ap (refusal (told .before .before .before .args .n)) (sym (told .enum-told4 .given .1))) (number .decimal .ensures)
 
 pub refused-spec : {M : Type 1} → statement M
 refused-spec =

@@ -1,6 +1,6 @@
 -- `call_lines::told` meets its contract: number and name, and what was answered. Assumes nothing.
-use Rattle.text.proofs.Pieces.{then}
-use Rattle.call_lines.specs.Lines.{callLine}
+use Rattle.text.proofs.Pieces.{then, reads}
+use Rattle.call_lines.proofs.Pieces.{of-call}
 use borrow.Author.Needs.{needs}
 use Rattle.call_lines.proofs.told.Statement.{statement}
 use Rattle.call_lines.proofs.told.Tie as tie
@@ -15,10 +15,9 @@ same-length : tie.Need-same-length
 same-length c = search needs
 
 returns : tie.Need-returns
-unfolding callLine
 returns c =
     let answer = c .before .before in
-    then (answer .before .before .before .before .named .ensures) (answer .answered .ensures)
+    reads (then (answer .before .before .before .before .named .ensures) (answer .answered .ensures)) (of-call _ _ _)
 
 pub told-spec : {M : Type 1} → statement M
 told-spec = tie.close (tie.spec named-requires answered-requires same-length returns)

@@ -5,15 +5,15 @@ use native.Mathlib.Omega.{arith}
 use native.Mathlib.Numerals.{add-one}
 use borrow.Author.Needs.{needs}
 use Rattle.brackets.specs.Brackets.{times}
-use Rattle.dense.specs.Density.{first3, halved3, density3}
+use Rattle.dense.specs.Density.{halvings3, first3, halved3, density3}
 use Rattle.dense.proofs.densities.density.Statement.{statement}
 use Rattle.dense.proofs.densities.density.Tie as tie
 
 abbrev Inv-loop : tie.InvT-loop
-Inv-loop p t b₀ k₀ b k = (k ≤ 60) × (b ≡ times (halved3 p t) k (first3 p t))
+Inv-loop p t b₀ k₀ b k = (k ≤ halvings3) × (b ≡ times (halved3 p t) k (first3 p t))
 
 abbrev μ-loop : tie.MeasureT-loop
-μ-loop p t b₀ k₀ b k = 60 - k
+μ-loop p t b₀ k₀ b k = halvings3 - k
 
 loop-holds : tie.Need-loop-holds Inv-loop μ-loop
 unfolding times
@@ -36,7 +36,7 @@ returns : tie.Need-returns Inv-loop μ-loop
 unfolding density3
 returns c =
     let l = c .before .before in
-    let full : l .loop .k ≡ 60 = omega arith in
+    let full : l .loop .k ≡ halvings3 = omega arith in
     rw (c .middle .ensures, l .loop .inv .1, full) refl
 
 pub density-spec : {M : Type 1} → statement M
