@@ -73,8 +73,8 @@ fn divides(below: f64) -> bool
     arith::is_finite(below)
 }
 
-// The quotient at a state, from its slopes; 8 if its denominator is zero or not finite. That is judged before the
-// numerator is worked.
+// The quotient at a state, from its slopes; 8 if its denominator is zero or not finite. That is judged
+// before the numerator is worked.
 fn at(a: Slopes, z: u64, x: u64, y: u64) -> Derivative
     requires { ⌜ allKnown z x y ≡ true ⌝ }
     ensures { λ q. ⌜ q ≡ ratioAt a z x y ⌝ }
