@@ -165,8 +165,8 @@ impl Region3 {
         }
     }
 
-    // What phi and pressure take of the sum of Eq. (25), each its own: the compiler places a walk in line where it is
-    // called once, and leaves out what is not taken.
+    // What phi and pressure take of the sum of Eq. (25), each its own: the compiler places a walk in line
+    // where it is called once, and leaves out what is not taken.
     fn six(x: DensePoint) -> Six
         ensures { λ r. ⌜ r ≡ six3 x ⌝ }
     {

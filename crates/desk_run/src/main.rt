@@ -1,6 +1,7 @@
 // A run of the desk through the points of the rules that are for running only: a fifth open post is
-// refused with 10, a second collect of a ticket with 11, p = 0.0006 with any finite h with 2. A line for each call: its name, its refusal
-// number (0 where there is none) and what it handed out (a ticket, the halvings done, a region).
+// refused with 10, a second collect of a ticket with 11, p = 0.0006 with any finite h with 2. A line for
+// each call: its name, its refusal number (0 where there is none) and what it handed out (a ticket, the
+// halvings done, a region).
 use desk::Answer;
 use desk::Desk;
 use libc::STDOUT_FILENO;

@@ -149,8 +149,8 @@ impl Region1 {
         reduced(Self::R, Self::P, Self::T, p, t)
     }
 
-    // What gamma, h and s take of the sum of Eq. (15), each its own: the compiler places a walk in line where it is
-    // called once, and leaves out what is not taken.
+    // What gamma, h and s take of the sum of Eq. (15), each its own: the compiler places a walk in line
+    // where it is called once, and leaves out what is not taken.
     fn six(x: Point) -> Six
         ensures { λ r. ⌜ r ≡ six1 x ⌝ }
     {

@@ -33,7 +33,7 @@ const DRAIN_H: f64 = 650.0;
 
 // How many states the heater still waits for, none once it was refused; the enthalpy of its water in,
 // in kJ/kg; and where in its room its next line goes.
-pub struct Heater {
+pub(crate) struct Heater {
     pub waits_for: u64,
     pub h_in: f64,
     pub next_line: usize,

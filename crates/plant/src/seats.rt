@@ -22,20 +22,20 @@ const P_H: u64 = 2;
 const P_S: u64 = 3;
 
 // The models, and the ticket that each seat got last.
-pub struct Seats {
+pub(crate) struct Seats {
     pub turbine: Turbine,
     pub heater: Heater,
     pub tickets: [u64; 4],
 }
 
 // The two calls that a query takes.
-pub enum Step {
+pub(crate) enum Step {
     Post,
     Collect,
 }
 
 // A call on the desk, or that there is none to make.
-pub enum Call {
+pub(crate) enum Call {
     Post {
         caller: u64,
         kind: u64,

@@ -9,7 +9,7 @@ ghost use Rattle.arith.specs.F64.{_⊖_, _⊗_};
 ghost use Rattle.slopes.specs.Slopes.{changeOf, dividesOf, ratioAt, allKnown, derivativeAt};
 
 // How one property changes with the first variable, and with the second.
-pub struct Change {
+pub(crate) struct Change {
     pub first: f64,
     pub second: f64,
 }
@@ -20,40 +20,38 @@ fn change_of(a: Slopes, n: u64) -> Change
     requires { ⌜ (1 ≤ n) × (n ≤ 8) ⌝ }
     ensures { λ r. ⌜ r ≡ changeOf a n ⌝ }
 {
-    let by = a.first;
-    let other = a.second;
     match n % 8 {
         1 => Change {
-            first: by.p,
-            second: other.p,
+            first: a.first.p,
+            second: a.second.p,
         },
         2 => Change {
-            first: by.t,
-            second: other.t,
+            first: a.first.t,
+            second: a.second.t,
         },
         3 => Change {
-            first: by.v,
-            second: other.v,
+            first: a.first.v,
+            second: a.second.v,
         },
         4 => Change {
-            first: by.u,
-            second: other.u,
+            first: a.first.u,
+            second: a.second.u,
         },
         5 => Change {
-            first: by.h,
-            second: other.h,
+            first: a.first.h,
+            second: a.second.h,
         },
         6 => Change {
-            first: by.s,
-            second: other.s,
+            first: a.first.s,
+            second: a.second.s,
         },
         7 => Change {
-            first: by.g,
-            second: other.g,
+            first: a.first.g,
+            second: a.second.g,
         },
         _ => Change {
-            first: by.f,
-            second: other.f,
+            first: a.first.f,
+            second: a.second.f,
         },
     }
 }
@@ -75,8 +73,8 @@ fn divides(below: f64) -> bool
     arith::is_finite(below)
 }
 
-// The quotient at a state, from its slopes; 8 if its denominator is zero or not finite. That is judged before the
-// numerator is worked.
+// The quotient at a state, from its slopes; 8 if its denominator is zero or not finite. That is judged
+// before the numerator is worked.
 fn at(a: Slopes, z: u64, x: u64, y: u64) -> Derivative
     requires { ⌜ allKnown z x y ≡ true ⌝ }
     ensures { λ q. ⌜ q ≡ ratioAt a z x y ⌝ }

@@ -45,7 +45,8 @@ fn mixture(given: Given, p: f64, y: f64, t: f64, liquid: Unrooted, vapour: Unroo
     }
 }
 
-// The wet state at p in MPa and t in K, the Ts(p) of its caller, that has the h in kJ/kg or s in kJ/(kg K) asked.
+// The wet state at p in MPa and t in K, the Ts(p) of its caller, that has the h in kJ/kg or s in
+// kJ/(kg K) asked.
 pub fn wet_at(given: Given, p: f64, y: f64, t: f64) -> Wet
     ensures { λ r. ⌜ r ≡ wetOf given p y t ⌝ }
 {

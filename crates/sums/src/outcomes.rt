@@ -24,19 +24,19 @@ ghost use Rattle.sums.specs.Queries.{temperatureOf, answerPT, answerPY, 
 ghost use Rattle.sums.specs.Outcomes.{outcomeOf, shownOf, foundOf, verifiedIn, markedIn};
 
 // Where a state of one phase lies.
-pub struct Spot {
+pub(crate) struct Spot {
     pub equation: Equation,
     pub p: f64,
     pub t: f64,
 }
 
-pub enum Found {
+pub(crate) enum Found {
     Single(Spot),
     Wet(Wet),
     Refused(u64),
 }
 
-pub enum Outcome {
+pub(crate) enum Outcome {
     Single(Full),
     Wet(Wet),
     Refused(u64),

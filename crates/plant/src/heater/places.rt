@@ -1,6 +1,6 @@
 // The places of the heater, and what its lines call them.
 
-pub enum Place {
+pub(crate) enum Place {
     WaterIn,
     BledSteam,
     Drain,

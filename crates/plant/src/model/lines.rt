@@ -5,10 +5,10 @@ use states::Single;
 use text::Cell;
 
 // How many kW make one MW.
-pub const KW_IN_MW: f64 = 1000.0;
+pub(crate) const KW_IN_MW: f64 = 1000.0;
 
 // What a model gives off at a place, in MW.
-pub enum Output {
+pub(crate) enum Output {
     Nothing,
     ShaftPower(f64),
     Heat(f64),
