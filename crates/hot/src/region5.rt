@@ -65,8 +65,8 @@ impl Region5 {
         reduced(Self::R, Self::P, Self::T, p, t)
     }
 
-    // What gamma, h and s take of the sum of the ideal-gas part, each its own: the compiler places a walk in line where it is
-    // called once, and leaves out what is not taken.
+    // What gamma, h and s take of the sum of the ideal-gas part, each its own: the compiler places a walk in
+    // line where it is called once, and leaves out what is not taken.
     fn ideal_six(x: Point) -> Six
         ensures { λ r. ⌜ r ≡ sixOf ideal5 (x .pi) (x .tau) ⌝ }
     {
