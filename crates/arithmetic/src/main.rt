@@ -56,8 +56,8 @@ fn print_lines(s: &[u8]) {
     let mut k = 0usize;
     while k < n {
         print_line(
-            arith::float_of(sheet::word(s, 2 * k)),
-            sheet::word(s, 2 * k + 1),
+            arith::float_of(words::word(s, 2 * k)),
+            words::word(s, 2 * k + 1),
         );
         k += 1;
     }

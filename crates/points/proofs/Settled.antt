@@ -6,8 +6,8 @@ use Rattle.arith.specs.Printed.{printed}
 use Rattle.arith.specs.Bits.{finite}
 use Rattle.subregions.specs.H2ab.{h2ab}
 use Rattle.subregions.specs.Subregions.{byHs}
-use Rattle.sheet.specs.Versions.{versionFor}
-use Rattle.sheet.specs.Write.{sheetOf}
+use Rattle.versions.specs.Versions.{versionFor}
+use Rattle.sheet_writer.specs.Write.{sheetOf}
 use Rattle.places.specs.Places.{placePT, tableOf}
 use Rattle.sums.specs.Queries.{answerPT}
 use Rattle.points.specs.Marked.{MarkedPoint, marked, readingOf}

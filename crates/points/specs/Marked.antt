@@ -8,7 +8,7 @@ use Rattle.arith.specs.Printed.{less, printed}
 use Rattle.subregions.specs.Subregions.{byHs}
 use Rattle.subregions.specs.declared.subregion.Subregion.{Subregion}
 use Rattle.subregions.specs.declared.subregion.Subregion.the-variants.{A, B, C}
-use Rattle.sheet.specs.Write.{sheetOf}
+use Rattle.sheet_writer.specs.Write.{sheetOf}
 use Rattle.reply.specs.Answers.{numberOf, regionOf}
 use Rattle.sums.specs.Queries.{answerPT}
 

@@ -6,7 +6,7 @@ use mathlib.Core.List.{List, [], _∷_, _++_}
 use lib.Dec.{leb, eqb}
 use lib.ListN.{length}
 use Rattle.arith.specs.Bits.{floatOf}
-use Rattle.sheet.specs.Words.{wordOf}
+use Rattle.words.specs.Words.{wordOf}
 use Rattle.ledger.specs.Search.{upto}
 use Rattle.ledger.specs.declared.Row.{Row}
 use Rattle.ledger.specs.declared.Desk.{Desk}

@@ -52,7 +52,7 @@ pub fn read(rest: &[u8]) -> Deed
     if rest.len() < 40 {
         return Deed::Bad;
     }
-    let op = sheet::word(rest, 0);
+    let op = words::word(rest, 0);
     if op == 6 {
         if rows_known(rest) {
             return Deed::Given;
@@ -61,9 +61,9 @@ pub fn read(rest: &[u8]) -> Deed
     }
     plain(
         op,
-        sheet::word(rest, 1),
-        sheet::word(rest, 2),
-        sheet::word(rest, 3),
-        sheet::word(rest, 4),
+        words::word(rest, 1),
+        words::word(rest, 2),
+        words::word(rest, 3),
+        words::word(rest, 4),
     )
 }

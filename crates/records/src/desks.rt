@@ -23,7 +23,7 @@ pub(crate) fn rows_known(rest: &[u8]) -> bool
     }
     let mut i = 0;
     while i < 32 {
-        if 1 < sheet::word(rest, row_start(i)) {
+        if 1 < words::word(rest, row_start(i)) {
             return false;
         }
         i += 1;
@@ -38,16 +38,16 @@ fn row_in(rest: &[u8], i: usize) -> Row
 {
     let k = row_start(i);
     Row {
-        filled: sheet::word(rest, k) == 1,
-        caller: sheet::word(rest, k + 1),
-        ticket: sheet::word(rest, k + 2),
-        kind: sheet::word(rest, k + 3),
-        region: sheet::word(rest, k + 4),
-        p: arith::float_of(sheet::word(rest, k + 5)),
-        y: arith::float_of(sheet::word(rest, k + 6)),
-        halvings: sheet::word(rest, k + 7),
-        lo: arith::float_of(sheet::word(rest, k + 8)),
-        hi: arith::float_of(sheet::word(rest, k + 9)),
+        filled: words::word(rest, k) == 1,
+        caller: words::word(rest, k + 1),
+        ticket: words::word(rest, k + 2),
+        kind: words::word(rest, k + 3),
+        region: words::word(rest, k + 4),
+        p: arith::float_of(words::word(rest, k + 5)),
+        y: arith::float_of(words::word(rest, k + 6)),
+        halvings: words::word(rest, k + 7),
+        lo: arith::float_of(words::word(rest, k + 8)),
+        hi: arith::float_of(words::word(rest, k + 9)),
     }
 }
 
@@ -73,7 +73,7 @@ fn counts_in(rest: &[u8]) -> [u64; 8]
     let mut counts = [0u64; 8];
     let mut c = 0;
     while c < 8 {
-        counts[c] = sheet::word(rest, 6 + c);
+        counts[c] = words::word(rest, 6 + c);
         c += 1;
     }
     counts
@@ -88,6 +88,6 @@ pub fn desk_in(rest: &[u8]) -> Desk
     Desk {
         rows: rows,
         counts: counts,
-        pointer: sheet::word(rest, 5),
+        pointer: words::word(rest, 5),
     }
 }

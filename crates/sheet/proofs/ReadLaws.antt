@@ -7,15 +7,15 @@ use native.Mathlib.Omega.{arith}
 use lib.ListN.{length}
 use lib.Dec.{ltb, leb, eqb}
 use borrow.Author.Tests.{ltb-false, leb-true, eqb-true, lt-ltb}
-use Rattle.sheet.specs.Words.{u32At}
-use Rattle.sheet.specs.Versions.{known, allowed}
+use Rattle.words.specs.Words.{u32At}
+use Rattle.versions.specs.Versions.{known, allowed}
 use Rattle.sheet.specs.Rows.{kindKnown, kindsKnown, rowAt, rowOf}
 use Rattle.sheet.specs.Read.{judged, trailerOf, readOf, withKinds, rowsOf}
 use Rattle.sheet.specs.declared.rows.Point.{Point}
 use Rattle.sheet.specs.declared.reader.Reading.{Reading}
 use Rattle.sheet.specs.declared.reader.Reading.the-variants.{Rows, Refused}
-use Rattle.sheet.proofs.VersionLaws.{allowed-small}
-use Rattle.sheet.proofs.WordLaws.{u64-part}
+use Rattle.versions.proofs.VersionLaws.{allowed-small}
+use Rattle.words.proofs.WordLaws.{u64-part}
 use Rattle.sheet.proofs.RowLaws.{and-left, and-right, kinds-at}
 
 not-rows : (number count start : ℕ) → Refused number ≡ Rows count start → ⊥

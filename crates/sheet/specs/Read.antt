@@ -4,8 +4,8 @@ use mathlib.Core.Bool.{_&&_, cond}
 use mathlib.Core.List.{List}
 use lib.ListN.{length, take, drop}
 use lib.Dec.{ltb, leb, eqb}
-use Rattle.sheet.specs.Words.{u32At}
-use Rattle.sheet.specs.Versions.{known, allowed}
+use Rattle.words.specs.Words.{u32At}
+use Rattle.versions.specs.Versions.{known, allowed}
 use Rattle.sheet.specs.Rows.{kindsKnown}
 use Rattle.sheet.specs.declared.reader.Reading.{Reading}
 use Rattle.sheet.specs.declared.reader.Reading.the-variants.{Rows, Refused}

@@ -4,7 +4,7 @@ use mathlib.Core.Bool.{Bool, true, _&&_, cond}
 use mathlib.Core.List.{List}
 use lib.ListN.{length}
 use lib.Dec.{ltb, leb}
-use Rattle.sheet.specs.Words.{u64At}
+use Rattle.words.specs.Words.{u64At}
 use Rattle.sheet.specs.declared.rows.Point.{Point}
 
 -- (p,T), (p,h), (p,s), (h,s)

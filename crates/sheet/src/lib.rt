@@ -4,14 +4,9 @@
 // each a u32. All are little-endian. Value bits are not judged here.
 mod reader;
 mod rows;
-mod versions;
-mod words;
-mod writer;
 
 pub use reader::Reading;
 pub use reader::read;
 pub use rows::Point;
+pub use rows::kinds_known;
 pub use rows::row;
-pub use words::word;
-pub use writer::Writing;
-pub use writer::write;

@@ -1,8 +1,8 @@
 // Reading a sheet (specs/Read.antt).
 use crate::rows::kinds_known;
-use crate::versions::allowed;
-use crate::versions::known;
-use crate::words::u32_at;
+use versions::allowed;
+use versions::known;
+use words::u32_at;
 ghost use mathlib.Core.Path.{_≡_};
 ghost use Prim.Native.Nat.{_<_};
 ghost use Rattle.sheet.specs.Read.{numberOf, countOf, startOf, judged, trailerOf, readOf};

@@ -1,8 +1,6 @@
 // The rows of a sheet (specs/Rows.antt).
-use crate::words::u64_at;
+use words::u64_at;
 ghost use mathlib.Core.Path.{_≡_};
-ghost use Prim.Native.Nat.{_*_, _≤_};
-ghost use lib.ListN.{length};
 ghost use Rattle.sheet.specs.Rows.{kindKnown, kindsKnown, rowOf};
 
 // A row: the kind of query, 1 to 4 for (p,T), (p,h), (p,s), (h,s), and the bits of its two values.
@@ -19,9 +17,9 @@ fn kind_known(kind: u64) -> bool
     1 <= kind && kind <= 4
 }
 
-// Whether each of the first n rows has a kind from 1 to 4.
-pub(crate) fn kinds_known(rows: &[u8], n: usize) -> bool
-    requires { ⌜ 24 * n ≤ length (now rows) ⌝ }
+// Whether each of the first n rows has a kind from 1 to 4. Bytes past the end count as 0, so a row
+// there has none.
+pub fn kinds_known(rows: &[u8], n: usize) -> bool
     ensures { λ r. ⌜ r ≡ kindsKnown n (now (rows .entry)) ⌝ }
 {
     let mut k = 0;

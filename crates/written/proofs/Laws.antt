@@ -8,11 +8,11 @@ use lib.ListN.{length, take, drop, length-append, length-drop}
 use lib.Seq.{take-at, take-length}
 use borrow.Author.Tests.{eq-eqb, ne-eqb}
 use Rattle.text.specs.Room.{Whole}
-use Rattle.sheet.specs.Write.{numberOf, lengthOf, sheetOf, writeOf, roomOf}
-use Rattle.sheet.specs.declared.writer.Writing.{Writing}
-use Rattle.sheet.specs.declared.writer.Writing.the-variants.{Length, Refused}
-use Rattle.sheet.proofs.WriteLaws.{written, sheet-length, room-sheet, refused-number, refused-keeps}
-use Rattle.sheet.specs.Words.{wordOf}
+use Rattle.sheet_writer.specs.Write.{numberOf, lengthOf, sheetOf, writeOf, roomOf}
+use Rattle.sheet_writer.specs.declared.Writing.{Writing}
+use Rattle.sheet_writer.specs.declared.Writing.the-variants.{Length, Refused}
+use Rattle.sheet_writer.proofs.WriteLaws.{written, sheet-length, room-sheet, refused-number, refused-keeps}
+use Rattle.words.specs.Words.{wordOf}
 use Rattle.row_lines.specs.Lines.{refusedLine}
 use Rattle.listing.specs.Listings.{longest}
 use Rattle.written.specs.Written.{noteEnd, answerText, writtenText}

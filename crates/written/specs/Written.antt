@@ -4,9 +4,9 @@ use mathlib.Core.Bool.{cond}
 use mathlib.Core.List.{List}
 use lib.Dec.{eqb}
 use lib.ListN.{length, take, drop}
-use Rattle.sheet.specs.Words.{wordOf}
-use Rattle.sheet.specs.Write.{numberOf, sheetOf, writeOf}
-use Rattle.sheet.specs.declared.writer.Writing.{Writing}
+use Rattle.words.specs.Words.{wordOf}
+use Rattle.sheet_writer.specs.Write.{numberOf, sheetOf, writeOf}
+use Rattle.sheet_writer.specs.declared.Writing.{Writing}
 use Rattle.row_lines.specs.Lines.{refusedLine}
 use Rattle.listing.specs.Listings.{longest}
 

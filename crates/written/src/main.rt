@@ -5,7 +5,7 @@ ghost use mathlib.Core.Path.{_≡_};
 ghost use Prim.Native.Nat.{_≤_, min};
 ghost use lib.ListN.{length, drop};
 ghost use Rattle.text.specs.Room.{Whole};
-ghost use Rattle.sheet.specs.Write.{writeOf};
+ghost use Rattle.sheet_writer.specs.Write.{writeOf};
 ghost use Rattle.listing.specs.Listings.{longest};
 ghost use Rattle.written.specs.Written.{answerText, writtenText};
 
@@ -37,7 +37,7 @@ fn answered(note: &[u8], rows: &[u8], most: usize, room: &mut [u8]) -> usize
     requires { ⌜ (most ≤ longest) × (length (now room) ≡ longest) ⌝ }
     ensures { λ r. ⌜ Whole (now (room .exit)) (answerText (now (note .entry)) (now (rows .entry)) (writeOf (now (note .entry)) (now (rows .entry)) most)) r ⌝ }
 {
-    let w = sheet::write(note, rows, &mut room[..most]);
+    let w = sheet_writer::write(note, rows, &mut room[..most]);
     if w.number() == 0 {
         return w.length();
     }
@@ -49,8 +49,8 @@ fn text(parts: &[u8], room: &mut [u8; ROOM]) -> usize
     ensures { λ r. ⌜ Whole (now (room .exit)) (writtenText (now (parts .entry))) r ⌝ }
 {
     let rest = behind(parts);
-    let end = at_most(sheet::word(parts, 0), rest.len());
-    let most = at_most(sheet::word(parts, 1), ROOM);
+    let end = at_most(words::word(parts, 0), rest.len());
+    let most = at_most(words::word(parts, 1), ROOM);
     answered(&rest[..end], &rest[end..], most, room)
 }
 

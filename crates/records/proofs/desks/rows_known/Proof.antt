@@ -6,7 +6,7 @@ use native.Mathlib.Omega.{arith}
 use borrow.Author.Needs.{needs}
 use borrow.Author.Tests.{le-leb, lt-leb}
 use lib.Dec.{leb}
-use Rattle.sheet.specs.Words.{wordOf}
+use Rattle.words.specs.Words.{wordOf}
 use Rattle.ledger.specs.Search.{upto}
 use Rattle.ledger.proofs.Search.{upto-fails, upto-more}
 use Rattle.records.specs.Records.{rowStart, rowsKnown}

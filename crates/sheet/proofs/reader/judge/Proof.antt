@@ -3,7 +3,7 @@ use borrow.Author.Needs.{needs}
 use borrow.Author.Tests.{not-true, not-false, eq-eqb, ne-eqb, le-leb, lt-leb}
 use mathlib.Core.Path.{_≡_, refl, sym, _∙_}
 use mathlib.Core.Bool.{true}
-use Rattle.sheet.specs.Versions.{known, allowed}
+use Rattle.versions.specs.Versions.{known, allowed}
 use Rattle.sheet.specs.Read.{judged}
 use Rattle.sheet.proofs.reader.judge.Statement.{statement}
 use Rattle.sheet.proofs.reader.judge.Tie as tie

@@ -1,4 +1,4 @@
--- `sheet::rows::kinds_known` meets its contract. The invariant: the rows passed have known kinds. The measure is how many are left. Assumes nothing.
+-- `sheet::rows::kinds_known` meets its contract. The invariant: the rows passed have known kinds, so they start in the slice. The measure is how many are left. Assumes nothing.
 use Prim.Native.Nat.{ℕ, _≤_, _-_}
 use mathlib.Core.Path.{_≡_, refl, sym, ap, _∙_}
 use mathlib.Core.Bool.{true}
@@ -6,7 +6,7 @@ use native.Mathlib.Nat.{le-antisymm}
 use native.Mathlib.Omega.{arith}
 use borrow.Author.Tests.{not-true, not-false}
 use Rattle.sheet.specs.Rows.{kindKnown, kindsKnown}
-use Rattle.sheet.proofs.RowLaws.{kinds-next, kinds-bad}
+use Rattle.sheet.proofs.RowLaws.{kinds-held, kinds-next, kinds-bad}
 use Rattle.sheet.proofs.rows.kinds_known.Statement.{statement}
 use Rattle.sheet.proofs.rows.kinds_known.Tie as tie
 
@@ -21,7 +21,9 @@ unfolding kindsKnown
 loop-holds c = (omega arith, refl)
 
 mul-u64-at : tie.Need-mul-u64-at Inv-loop μ-loop
-mul-u64-at c = omega arith
+mul-u64-at c =
+    let l = c .before in
+    omega (arith, kinds-held (l .loop .k) _ (l .loop .inv .1))
 
 u64-at-requires : tie.Need-u64-at-requires Inv-loop μ-loop
 u64-at-requires c κs = omega arith

@@ -1,0 +1,3 @@
+-- `WordLaws`: what the definitions mean for each other. `Only`: no second result.
+pub mod WordLaws
+pub mod Only
