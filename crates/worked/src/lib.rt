@@ -1,2 +1,2 @@
-// Worked examples: the definitions give the numbers that the papers print to check a program by, as theorems
+// Worked examples: at a point of most of the papers' check tables the definitions give what is printed, as theorems
 // over the definitions alone (proofs/). There is no code.
