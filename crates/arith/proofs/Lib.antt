@@ -2,3 +2,4 @@ pub mod Only
 pub mod Literals
 pub mod Exponents
 pub mod Signs
+pub mod LowerPowers

@@ -13,3 +13,8 @@ raised x (suc k) = raised x k ⊗ x
 unfoldable pub powerOf : Float → ℤ → Float
 powerOf x (pos k) = raised x k
 powerOf x (negsuc k) = f64 1 ⊘ raised x (suc k)
+
+-- y·x·x.., k products one after the other: how a power goes on from a lower one
+unfoldable pub multiplied : Float → Float → ℕ → Float
+multiplied x y zero = y
+multiplied x y (suc k) = multiplied x y k ⊗ x

@@ -122,18 +122,20 @@ pub(crate) fn of_py(given: Given, p: f64, y: f64) -> Found
     }
 }
 
-// From h in kJ/kg and s in kJ/(kg K).
+// From h in kJ/kg and s in kJ/(kg K). One outcome is held and overwritten, not two side by side: each
+// takes some 200 bytes of stack (bench/stack).
 pub(crate) fn of_hs(h: f64, s: f64) -> Outcome
     ensures { λ r. ⌜ r ≡ outcomeOf (answerHS h s) ⌝ }
 {
     if wild(h, s) {
         return Outcome::Refused(1);
     }
-    let liquid = candidate(Phase::Liquid, h, s);
-    match liquid {
-        Outcome::Refused(_) => candidate(Phase::Vapour, h, s),
-        _ => liquid,
+    let mut outcome = candidate(Phase::Liquid, h, s);
+    match outcome {
+        Outcome::Refused(_) => outcome = candidate(Phase::Vapour, h, s),
+        _ => {}
     }
+    outcome
 }
 
 // By the number of the kind, which is not that of (h,s).

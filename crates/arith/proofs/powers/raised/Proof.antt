@@ -9,14 +9,14 @@ use Rattle.arith.proofs.powers.raised.Statement.{statement}
 use Rattle.arith.proofs.powers.raised.Tie as tie
 
 abbrev Inv-loop : tie.InvT-loop
-Inv-loop x k r₀ i₀ r i = (i ≤ k) × (r ≡ raised x i)
+Inv-loop x k r₀ i₀ r i = (r ≡ raised x i) × (i ≤ k)
 
 abbrev μ-loop : tie.MeasureT-loop
 μ-loop x k r₀ i₀ r i = k - i
 
 loop-holds : tie.Need-loop-holds Inv-loop μ-loop
 unfolding raised
-loop-holds c = (omega arith, one-is)
+loop-holds c = (one-is, omega arith)
 
 add-i : tie.Need-add-i Inv-loop μ-loop
 add-i c = omega arith
@@ -25,10 +25,10 @@ loop-less : tie.Need-loop-less Inv-loop μ-loop
 loop-less c = omega arith
 
 loop-again : tie.Need-loop-again Inv-loop μ-loop
-loop-again c = (omega arith, raised-step _ _ (c .before .loop .inv .1))
+loop-again c = (raised-step _ _ (c .before .loop .inv .0), omega arith)
 
 returns : tie.Need-returns Inv-loop μ-loop
-returns c = c .before .loop .inv .1 ∙ ap (raised _) (omega arith)
+returns c = c .before .loop .inv .0 ∙ ap (raised _) (omega arith)
 
 pub raised-spec : {M : Type 1} → statement M
 raised-spec = tie.close (tie.spec Inv-loop μ-loop loop-holds add-i loop-less loop-again returns)
