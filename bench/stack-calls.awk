@@ -1,6 +1,7 @@
-# For bench/stack: reads the sources of crates, and of those named in `asked` writes a Rattle library that has each public call under a name which a linker sees,
-# CRATE__CALL or CRATE__TYPE__CALL. Such a function takes numbers, makes the call's arguments of them, and gives the sum of all values of the result, so that the
-# compiler leaves none out. Types are read where they are declared. What is not provided for, an argument or a result of another kind, stops it.
+# For bench/stack: reads the sources of crates, and of those named in `asked` writes a Rattle library that has each public call, or of them those named in `only`,
+# under a name which a linker sees, CRATE__CALL or CRATE__TYPE__CALL. Such a function takes numbers, makes the call's arguments of them, and gives the sum of all
+# values of the result, so that the compiler leaves none out. Types are read where they are declared. What is not provided for stops it: an argument or a result
+# of another kind, a public call of another form, a call of another crate that is passed on.
 function fail(why) { print "bench/stack: " why > "/dev/stderr"; failed = 1; exit 1 }
 function before(mark, text) { sub(mark ".*", "", text); return text }
 function behind(mark, text) { sub(".*" mark, "", text); return text }
@@ -19,6 +20,8 @@ declared != "" && /^    [A-Za-z]/ {
     taken[calls] = before("[)]", behind("[(]", $0))
     given[calls] = $NF == "Self" ? owner : $NF
 }
+/^ *pub [a-z].* fn / && index(" " asked " ", " " crate " ") { fail("a public call of a form that is not provided for: " $0) }
+/^pub use / && index(" " asked " ", " " crate " ") { passed[crate "::" behind("[: ]", before(";", $0))] = 1 }
 
 # All values of `value`, which has the type `type`, as one number.
 function all(value, type) {
@@ -57,7 +60,10 @@ function made(name, type,    i, text) {
 
 END {
     if (failed) { exit 1 }
+    for (c = 1; c <= calls; c++) { delete passed[called[c]] }
+    for (name in passed) { if (name !~ /::[A-Z]/) { fail(name " is passed on from another crate") } }
     for (c = 1; c <= calls; c++) {
+        if (only != "" && !index(" " only " ", " " called[c] " ")) { continue }
         parameters = arguments = ""
         n = split(taken[c], each, /, */)
         for (i = 1; i <= n; i++) {
