@@ -3,3 +3,4 @@ pub mod Literals
 pub mod Exponents
 pub mod Signs
 pub mod LowerPowers
+pub mod Order
