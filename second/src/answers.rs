@@ -3,10 +3,11 @@
 use crate::backward::{
     p1_hs, p2_hs, subregion_hs, subregion_ph, subregion_ps, t1_ph, t1_ps, t2_ph, t2_ps,
 };
-use crate::basic::{saturation_temperature, Point, Properties, Region};
+use crate::basic::{Point, Properties, Region};
 use crate::helmholtz::DensePoint;
 use crate::refusals::{Refusal, NOT_FINITE, NO_REGION, UNKNOWN};
 use crate::regions::{from_pt, from_py, Equation, Place, Quantity, P_LOWEST_BACKWARD};
+use crate::saturation::saturation_temperature;
 
 /// Largest difference in p, MPa, of a verified state of region 3.
 const VERIFIED_P: f64 = 0.001;
@@ -189,8 +190,9 @@ fn candidate(region: Region, h: f64, s: f64) -> (f64, f64) {
 #[cfg(test)]
 mod tests {
     use super::*;
-    use crate::basic::{b23_pressure, saturation_pressure};
+    use crate::basic::b23_pressure;
     use crate::refusals::{OUT_OF_RANGE, REGION_3};
+    use crate::saturation::saturation_pressure;
 
     fn single(kind: u64, first: f64, second: f64) -> (Single, bool) {
         match answer(kind, first, second) {
@@ -244,7 +246,7 @@ mod tests {
     fn region_3_begins_behind_its_ties() {
         let of = |p, t| single(1, p, t).0;
         for t in [624.0, 630.0, 640.0, 647.0] {
-            let ps = saturation_pressure(t);
+            let ps = saturation_pressure(t).given();
             assert!(1.0 / of(ps, t).properties.v > 322.0);
             assert!(1.0 / of(ps.next_down(), t).properties.v < 322.0);
         }
@@ -271,7 +273,7 @@ mod tests {
         };
         assert!(mark(own) && mark(own + 0.00099) && mark(own - 0.00099));
         assert!(!mark(own + 0.00101) && !mark(own - 0.00101) && !mark(f64::NAN));
-        let (p, t) = (saturation_pressure(647.09599) - 1e-10, 647.09599);
+        let (p, t) = (saturation_pressure(647.09599).given() - 1e-10, 647.09599);
         let (state, verified) = single(1, p, t);
         assert!(verified && state.properties.v == 1.0 / 322.0 && state.properties.cp < 0.0);
     }

@@ -1,12 +1,11 @@
-//! The basic equations of 002 but that of region 3: regions 1, 2 and 5, the saturation
-//! line and the boundaries B23, 2bc and 2ab. Region 5 has the coefficients of R7-97 in
-//! 002's equation. Units: p in MPa, T in K, v in m³/kg, u and h in kJ/kg, s and cp in
-//! kJ/(kg K), w in m/s. The association of each formula is fixed; parentheses below are
-//! part of it.
+//! The basic equations of 002 for regions 1, 2 and 5, and the boundaries B23, 2bc and 2ab.
+//! Region 5 has the coefficients of R7-97 in 002's equation. Units: p in MPa, T in K, v in
+//! m³/kg, u and h in kJ/kg, s and cp in kJ/(kg K), w in m/s. The association of each formula
+//! is fixed; parentheses below are part of it.
 
-use crate::arithmetic::{fourth_root, logarithm, power, root};
+use crate::arithmetic::{logarithm, root};
 use crate::sums::derivative;
-use crate::tables::{Term, A1, A11, A2, A20, A4, A5, HS5, R7_37, R7_38};
+use crate::tables::{Term, A1, A2, A20, A4, A5, HS5, R7_37, R7_38};
 
 /// The specific gas constant R, Eq. (1), in kJ/(kg K).
 pub const R: f64 = 0.461526;
@@ -225,30 +224,6 @@ impl Point {
     }
 }
 
-/// Saturation pressure ps(T), Eq. (28), evaluated as printed at any T.
-pub fn saturation_pressure(t: f64) -> f64 {
-    let [n1, n2, n3, n4, n5, n6, n7, n8, n9, n10] = A11;
-    let theta = t + n9 / (t - n10);
-    let square = theta * theta;
-    let a = (square + n1 * theta) + n2;
-    let b = (n3 * square + n4 * theta) + n5;
-    let c = (n6 * square + n7 * theta) + n8;
-    power((2.0 * c) / (-b + root(b * b - (4.0 * a) * c)), 4)
-}
-
-/// Saturation temperature Ts(p), Eq. (55).
-pub fn saturation_temperature(p: f64) -> f64 {
-    let [n1, n2, n3, n4, n5, n6, n7, n8, n9, n10] = A11;
-    let beta = fourth_root(p);
-    let square = beta * beta;
-    let e = (square + n3 * beta) + n6;
-    let f = (n1 * square + n4 * beta) + n7;
-    let g = (n2 * square + n5 * beta) + n8;
-    let d = (2.0 * g) / (-f - root(f * f - (4.0 * e) * g));
-    let c = n10 + d;
-    (c - root(c * c - 4.0 * (n9 + n10 * d))) / 2.0
-}
-
 /// Boundary pressure pB23(T), Eq. (10).
 pub fn b23_pressure(t: f64) -> f64 {
     let [n1, n2, n3, _, _] = A1;
@@ -278,11 +253,7 @@ mod tests {
     use super::*;
 
     #[test]
-    fn landmarks() {
-        let highest = saturation_pressure(623.15);
-        assert_eq!(highest.to_bits(), 0x4030_8777_4ef7_2605);
-        assert_eq!(saturation_temperature(highest), 623.1500000000016);
-        assert!(saturation_temperature(highest) > 623.15);
+    fn b23_ends_above_the_highest_pressure() {
         assert!(b23_pressure(863.15) > 100.0);
     }
 

@@ -1,11 +1,12 @@
 //! The desk of 01: eight callers, 32 rows, one halving a turn.
 
 use crate::answers::{verified, Single};
-use crate::basic::{b23_temperature, saturation_temperature, Region};
+use crate::basic::{b23_temperature, Region};
 use crate::refusals::{
     Refusal, FOUR_OPEN, NOT_OPEN, NOT_READY, NOT_SINGLE, NOT_SOUND, TICKETS_SPENT, UNKNOWN,
 };
-use crate::regions::{from_py, highest_saturation_pressure, Place, Quantity, T_13, T_25, T_LOWEST};
+use crate::regions::{from_py, highest_saturation_pressure, Place, Quantity, T_25};
+use crate::saturation::{saturation_temperature, T_13, T_LOWEST};
 
 /// Callers are 0 to 7.
 pub const CALLERS: usize = 8;

@@ -4,14 +4,13 @@
 //! parentheses below are part of it.
 
 use crate::arithmetic::{logarithm, root};
-use crate::basic::{saturation_pressure, Properties, R};
+use crate::basic::{Properties, R};
+use crate::saturation::{saturation_pressure, SaturationPressure, T_CRITICAL};
 use crate::sums::derivative;
 use crate::tables::{Term, A9};
 
 /// The critical density, by which Eq. (25) reduces: ρ*.
 pub const D_CRITICAL: f64 = 322.0;
-/// The critical temperature, by which Eq. (25) reduces: T*.
-pub const T_CRITICAL: f64 = 647.096;
 /// Lowest density that is sought.
 const D_LOWEST: f64 = 50.0;
 /// Highest density that is sought.
@@ -29,7 +28,7 @@ pub struct DensePoint {
 }
 
 impl DensePoint {
-    /// δ = ρ/ρ* and τ = T*/T.
+    /// δ = ρ/ρ* and τ = T*/T; T* is the critical temperature.
     pub fn new(density: f64, t: f64) -> DensePoint {
         DensePoint { density, t, delta: density / D_CRITICAL, tau: T_CRITICAL / t }
     }
@@ -164,16 +163,24 @@ fn density(p: f64, t: f64) -> f64 {
 }
 
 /// The densities between which that of (p,T) is sought. Below the critical temperature
-/// the critical density parts liquid, which has p ≥ ps(T), from vapour.
+/// the critical density parts liquid, which has p ≥ ps(T), from vapour; where ps has no
+/// answer, p ≥ ps(T) does not hold.
 fn bracket(p: f64, t: f64) -> (f64, f64) {
     if t >= T_CRITICAL {
-        (D_LOWEST, D_HIGHEST)
-    } else if p >= saturation_pressure(t) {
-        (D_CRITICAL, D_HIGHEST)
-    } else {
-        (D_LOWEST, D_CRITICAL)
+        return (D_LOWEST, D_HIGHEST);
+    }
+    match saturation_pressure(t) {
+        SaturationPressure::To623(ps) | SaturationPressure::To647(ps) => {
+            if p >= ps {
+                (D_CRITICAL, D_HIGHEST)
+            } else {
+                (D_LOWEST, D_CRITICAL)
+            }
+        }
+        SaturationPressure::NoAnswer => (D_LOWEST, D_CRITICAL),
     }
 }
+
 #[cfg(test)]
 mod tests {
     use super::*;
@@ -206,7 +213,7 @@ mod tests {
     #[test]
     fn brackets_at_their_ties() {
         for t in [623.15_f64.next_up(), 630.0, 647.0, T_CRITICAL.next_down()] {
-            let ps = saturation_pressure(t);
+            let ps = saturation_pressure(t).given();
             assert_eq!(bracket(ps, t), (322.0, 800.0));
             assert_eq!(bracket(ps.next_up(), t), (322.0, 800.0));
             assert_eq!(bracket(ps.next_down(), t), (50.0, 322.0));
@@ -217,6 +224,21 @@ mod tests {
                 .all(|&p| bracket(p, t) == (50.0, 800.0)));
         }
         assert_eq!(bracket(f64::NAN, 640.0), (50.0, 322.0));
+    }
+
+    /// ps has an answer at the critical temperature, and the bracket is whole all the same;
+    /// below 273.15 K and for NaN, where no query comes from, it has none, and no p reaches it.
+    #[test]
+    fn brackets_at_and_off_the_ends_of_the_line() {
+        let cold = [273.15_f64.next_down(), 200.0, 0.0, -1.0, f64::NEG_INFINITY, f64::NAN];
+        for p in [0.0, 1.0, 22.0, 100.0, f64::INFINITY, f64::NAN] {
+            assert_eq!(bracket(p, T_CRITICAL), (50.0, 800.0), "{p}");
+            for t in cold {
+                assert_eq!(bracket(p, t), (50.0, 322.0), "{p} {t}");
+            }
+        }
+        assert_eq!(bracket(1.0, 273.15), (322.0, 800.0));
+        assert_eq!(bracket(1e-4, 273.15), (50.0, 322.0));
     }
 
     #[test]
@@ -234,7 +256,7 @@ mod tests {
     #[test]
     fn liquid_and_vapour_lie_on_their_sides_of_the_critical_density() {
         for t in [630.0, 640.0, 646.0, 647.0] {
-            let ps = saturation_pressure(t);
+            let ps = saturation_pressure(t).given();
             let (liquid, vapour) = (density(ps, t), density(ps.next_down(), t));
             assert!(vapour < 322.0 && liquid > 322.0, "{t}");
         }
@@ -245,7 +267,7 @@ mod tests {
     #[test]
     fn without_a_root_the_density_is_the_end_of_the_bracket() {
         for (t, below) in [(647.09599, 1e-10), (647.09597, 3e-10), (647.0959999, 1e-12)] {
-            let p = saturation_pressure(t) - below;
+            let p = saturation_pressure(t).given() - below;
             let point = DensePoint::found(p, t);
             assert_eq!(point.density, 322.0);
             assert!(point.pressure() < p && p - point.pressure() < 1e-8);

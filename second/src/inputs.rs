@@ -4,12 +4,14 @@
 mod damage;
 mod dense;
 mod hot;
+mod line;
 mod numbers;
 mod pairs;
 mod papers;
 mod points;
 mod random;
 mod runs;
+mod temperatures;
 mod writings;
 
 use crate::outputs::most_bytes;
@@ -57,11 +59,11 @@ impl Manner {
     }
 }
 
-/// Input for `program`: `count` is the number of random records (`arithmetic`), of rows
-/// of a sheet (`regions`, `answers`, `quotients`; of a damaged one the most) or to be
-/// written (`written`; of a damaged input the most), or of desk calls (`replay`; of a run
-/// of a pair, of its model's calls). The programs `check_values`, `desk_run` and `plant`
-/// read nothing.
+/// Input for `program`: `count` is the number of random records (`arithmetic`), of
+/// temperatures (`saturation`), of rows of a sheet (`regions`, `answers`, `quotients`; of a
+/// damaged one the most) or to be written (`written`; of a damaged input the most), or of
+/// desk calls (`replay`; of a run of a pair, of its model's calls). The programs
+/// `check_values`, `desk_run` and `plant` read nothing.
 pub fn of(program: Program, seed: u64, count: usize, manner: Manner) -> Vec<u8> {
     let mut random = Random::new(!seed);
     match manner {
@@ -88,6 +90,7 @@ fn reads_queries(program: Program) -> bool {
 fn whole(program: Program, seed: u64, count: usize) -> Vec<u8> {
     match program {
         Program::Arithmetic => numbers::records(seed, count),
+        Program::Saturation => temperatures::words(seed, count),
         Program::Regions | Program::Answers => papers::queries(seed, count),
         Program::Quotients => papers::triples(seed, count),
         Program::Replay => runs::records(seed, count),
@@ -103,6 +106,8 @@ fn damaged(program: Program, seed: u64, count: usize, random: &mut Random) -> Ve
             damage::sheet(papers::small(seed, count, triples), random)
         }
         Program::Written => writings::damaged(seed, count, random),
+        // One word at least, so that there is something to change.
+        Program::Saturation => damage::words(whole(program, seed, count.max(1)), random),
         _ => damage::words(whole(program, seed, count), random),
     }
 }
@@ -111,6 +116,7 @@ fn oversized(program: Program, seed: u64, count: usize, random: &mut Random) -> 
     let most = most_bytes(program);
     match program {
         Program::Replay => damage::longer(runs::past_the_end(seed), most, random),
+        Program::Saturation => temperatures::too_many(seed, count.max(1), random),
         _ => damage::longer(whole(program, seed, count), most, random),
     }
 }
@@ -120,8 +126,9 @@ mod tests {
     use super::*;
     use crate::outputs;
 
-    const PROGRAMS: [Program; 5] = [
+    const PROGRAMS: [Program; 6] = [
         Program::Arithmetic,
+        Program::Saturation,
         Program::Regions,
         Program::Answers,
         Program::Quotients,
@@ -172,7 +179,7 @@ mod tests {
         for (name, area) in [("dense", Area::Dense), ("hot", Area::Hot)] {
             let named = |program| Manner::named(name, program);
             assert_eq!(named(Program::Answers), Some(Manner::About(area)));
-            assert!([Program::Replay, Program::Arithmetic, Program::Written]
+            assert!([Program::Replay, Program::Arithmetic, Program::Saturation, Program::Written]
                 .into_iter()
                 .all(|program| named(program).is_none()));
         }
@@ -185,6 +192,7 @@ mod tests {
             assert!(text(Program::Replay).ends_with(" bad record\n"));
             assert_eq!(text(Program::Answers), "refused 23\n");
             assert_eq!(text(Program::Arithmetic).lines().count(), 4097);
+            assert_eq!(text(Program::Saturation), "bad input\n");
         }
     }
 }

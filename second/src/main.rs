@@ -22,6 +22,7 @@ mod inputs;
 mod outputs;
 mod refusals;
 mod regions;
+mod saturation;
 mod sheets;
 mod sums;
 mod tables;
@@ -33,7 +34,7 @@ use std::process::ExitCode;
 
 const USAGE: &str = "usage: second inputs NAME SEED COUNT [MANNER]
        second outputs NAME
-names: arithmetic check_values regions answers quotients written desk_run replay plant
+names: arithmetic check_values saturation regions answers quotients written desk_run replay plant
 manners: whole damaged empty cut oversized random;
          of regions, answers, quotients also dense hot; of replay also one other";
 
@@ -42,6 +43,7 @@ manners: whole damaged empty cut oversized random;
 pub enum Program {
     Arithmetic,
     CheckValues,
+    Saturation,
     Regions,
     Answers,
     Quotients,
@@ -56,6 +58,7 @@ impl Program {
         match name {
             "arithmetic" => Some(Program::Arithmetic),
             "check_values" => Some(Program::CheckValues),
+            "saturation" => Some(Program::Saturation),
             "regions" => Some(Program::Regions),
             "answers" => Some(Program::Answers),
             "quotients" => Some(Program::Quotients),

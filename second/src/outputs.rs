@@ -6,17 +6,20 @@ mod listings;
 mod numbers;
 mod plant;
 mod replay;
+mod saturation;
 mod written;
 
 use crate::Program;
 
 pub use replay::MOST_TURNS;
+pub use saturation::MOST_TEMPERATURES;
 
 /// The text that `program` must print.
 pub fn of(program: Program, input: &[u8]) -> String {
     match program {
         Program::Arithmetic => numbers::listing(input),
         Program::CheckValues => check_values::listing(),
+        Program::Saturation => saturation::listing(input),
         Program::Regions => listings::regions(input),
         Program::Answers => listings::answers(input),
         Program::Quotients => listings::quotients(input),
@@ -40,6 +43,7 @@ pub fn bytes(program: Program, input: &[u8]) -> Vec<u8> {
 pub fn most_bytes(program: Program) -> usize {
     match program {
         Program::Arithmetic => numbers::LIMIT,
+        Program::Saturation => saturation::LIMIT,
         Program::Regions | Program::Answers | Program::Quotients => listings::LONGEST,
         Program::Replay => replay::LIMIT,
         Program::Written => written::LIMIT,

@@ -1,4 +1,5 @@
-//! The refusal numbers of 01, with 4 and 5 as M-101 and M-100 of 02 have them.
+//! The refusal numbers of 01, with 4 and 5 as M-101 and M-100 of 02 have them, and 3 for a
+//! saturation pressure too (M-103).
 
 /// A refusal, by its number.
 #[derive(Clone, Copy, Debug, PartialEq, Eq)]
@@ -8,7 +9,7 @@ pub struct Refusal(pub u8);
 pub const NOT_FINITE: Refusal = Refusal(1);
 /// p out of range.
 pub const PRESSURE: Refusal = Refusal(2);
-/// T outside 273.15 to 2273.15.
+/// T outside 273.15 to 2273.15; of a saturation pressure, outside 273.15 to 647.096.
 pub const TEMPERATURE: Refusal = Refusal(3);
 /// T above 1073.15 and p above 50.
 pub const HOT_AND_HIGH: Refusal = Refusal(4);

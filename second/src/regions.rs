@@ -1,17 +1,14 @@
 //! Which region a query lies in: "Regions from (p,T)" and "Regions from (p,h),
 //! (p,s), (h,s)" of 01, with region 3 by M-100 and the end of region 5 by M-101 of 02.
 
-use crate::basic::{
-    b23_pressure, b23_temperature, saturation_pressure, saturation_temperature, Point, Region,
-};
+use crate::basic::{b23_pressure, b23_temperature, Point, Region};
 use crate::refusals::{
     Refusal, HOT_AND_HIGH, NOT_FINITE, OUT_OF_RANGE, PRESSURE, REGION_3, TEMPERATURE,
 };
+use crate::saturation::{
+    saturation_pressure, saturation_temperature, SaturationPressure, T_13, T_LOWEST,
+};
 
-/// Lowest temperature, in K.
-pub const T_LOWEST: f64 = 273.15;
-/// Temperature that ends region 1, in K.
-pub const T_13: f64 = 623.15;
 /// Temperature that ends the boundary between regions 2 and 3, in K.
 pub const T_B23: f64 = 863.15;
 /// Temperature that ends region 2, in K.
@@ -72,9 +69,14 @@ pub enum Place {
     Vapour,
 }
 
-/// The highest pressure P at which region 1 meets region 2: ps(623.15).
+/// P = ps(623.15), up to which a query of p and h or s can be wet.
 pub fn highest_saturation_pressure() -> f64 {
-    saturation_pressure(T_13)
+    match saturation_pressure(T_13) {
+        SaturationPressure::To623(ps) => ps,
+        SaturationPressure::To647(_) | SaturationPressure::NoAnswer => {
+            unreachable!("regions 1 and 2 meet up to 623.15 K")
+        }
+    }
 }
 
 /// The equation of the region of (p,T).
@@ -96,12 +98,18 @@ pub fn from_pt(p: f64, t: f64) -> Result<Equation, Refusal> {
     }
 }
 
-/// The equation of the region of an in-range (p,T) with T up to 1073.15.
+/// The equation of the region of an in-range (p,T) with T up to 1073.15. Above 623.15 K the
+/// boundary B23 parts the regions, whether the line still goes on or has ended.
 fn below_region_5(p: f64, t: f64) -> Equation {
-    if t <= T_13 {
-        let liquid = p >= saturation_pressure(t);
-        Equation::Gibbs(if liquid { Region::One } else { Region::Two })
-    } else if t > T_B23 || p <= b23_pressure(t) {
+    match saturation_pressure(t) {
+        SaturationPressure::To623(ps) if p >= ps => Equation::Gibbs(Region::One),
+        SaturationPressure::To623(_) => Equation::Gibbs(Region::Two),
+        SaturationPressure::To647(_) | SaturationPressure::NoAnswer => beside_b23(p, t),
+    }
+}
+
+fn beside_b23(p: f64, t: f64) -> Equation {
+    if t > T_B23 || p <= b23_pressure(t) {
         Equation::Gibbs(Region::Two)
     } else {
         Equation::Helmholtz
@@ -153,6 +161,7 @@ fn beside_region_3(quantity: Quantity, p: f64, y: f64) -> Result<Place, Refusal>
 #[cfg(test)]
 mod tests {
     use super::*;
+    use crate::saturation::T_CRITICAL;
 
     /// (10.5,1500) as M-101 of 02 reads it.
     #[test]
@@ -172,16 +181,28 @@ mod tests {
         assert_eq!(from_pt(50.0, 2300.0), Err(TEMPERATURE));
         assert_eq!(from_pt(-0.0, 300.0), Err(PRESSURE));
         assert_eq!(from_pt(100.0, 1073.15), Ok(Equation::Gibbs(Region::Two)));
-        assert_eq!(from_pt(saturation_pressure(500.0), 500.0), Ok(Equation::Gibbs(Region::One)));
-        assert_eq!(
-            from_pt(saturation_pressure(500.0).next_down(), 500.0),
-            Ok(Equation::Gibbs(Region::Two))
-        );
+        let ps = saturation_pressure(500.0).given();
+        assert_eq!(from_pt(ps, 500.0), Ok(Equation::Gibbs(Region::One)));
+        assert_eq!(from_pt(ps.next_down(), 500.0), Ok(Equation::Gibbs(Region::Two)));
         assert_eq!(from_pt(b23_pressure(700.0), 700.0), Ok(Equation::Gibbs(Region::Two)));
         assert_eq!(from_pt(b23_pressure(700.0).next_up(), 700.0), Ok(Equation::Helmholtz));
         assert_eq!(from_pt(50.0, T_13), Ok(Equation::Gibbs(Region::One)));
         assert_eq!(from_pt(50.0, T_13.next_up()), Ok(Equation::Helmholtz));
         assert_eq!(from_pt(P_LOWEST, T_HIGHEST), Ok(Equation::Gibbs(Region::Five)));
+    }
+
+    /// The answers turn at B23 alone, below the end of the line, at it and above.
+    #[test]
+    fn the_end_of_the_saturation_line_is_no_border() {
+        for t in [T_13.next_up(), T_CRITICAL.next_down(), T_CRITICAL, T_CRITICAL.next_up()] {
+            let boundary = b23_pressure(t);
+            for p in [P_LOWEST, boundary.next_down(), boundary] {
+                assert_eq!(from_pt(p, t), Ok(Equation::Gibbs(Region::Two)));
+            }
+            for p in [boundary.next_up(), 22.0, 22.064, 23.0, P_HIGHEST] {
+                assert_eq!(from_pt(p, t), Ok(Equation::Helmholtz));
+            }
+        }
     }
 
     #[test]

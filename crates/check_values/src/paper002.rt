@@ -11,13 +11,14 @@ use backward::t1_ph;
 use backward::t1_ps;
 use backward::t2_ph;
 use backward::t2_ps;
+use boundaries::p_2bc;
+use boundaries::p_b23;
+use boundaries::t_b23;
 use dense::Region3;
 use liquid::Region1;
-use saturation::p_2bc;
-use saturation::p_b23;
-use saturation::ps;
-use saturation::t_b23;
-use saturation::ts;
+use saturation_line::SaturationPressure;
+use saturation_line::ps;
+use saturation_line::ts;
 use steam::Region2;
 
 // All of them, in the paper's order.
@@ -198,9 +199,19 @@ fn region3(tally: Tally, density: f64, t: f64, printed: Point) -> Tally {
 // Table A12: the saturation pressure.
 fn a12(mut tally: Tally) -> Tally {
     let name: &[u8] = b"002-A12 ps";
-    tally = tally.line(name, 300.0, ps(300.0), 0.353658941e-2);
-    tally = tally.line(name, 500.0, ps(500.0), 0.263889776e1);
-    tally.line(name, 600.0, ps(600.0), 0.123443146e2)
+    tally = tally.line(name, 300.0, lower_ps(300.0), 0.353658941e-2);
+    tally = tally.line(name, 500.0, lower_ps(500.0), 0.263889776e1);
+    tally.line(name, 600.0, lower_ps(600.0), 0.123443146e2)
+}
+
+// The saturation pressure up to 623.15 K, where all of Table A12 stands; elsewhere a NaN, which agrees with
+// no printed number.
+fn lower_ps(t: f64) -> f64 {
+    match ps(t) {
+        SaturationPressure::UpTo623(p) => p,
+        SaturationPressure::Above623(_) => 0.0 / 0.0,
+        SaturationPressure::Nowhere => 0.0 / 0.0,
+    }
 }
 
 // Table A17: T(p,h) of region 1.

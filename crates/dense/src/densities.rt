@@ -3,8 +3,10 @@ use crate::Region3;
 use brackets::Bracket;
 use brackets::half;
 use brackets::middle;
+use saturation_line::SaturationPressure;
+use saturation_line::ps;
 ghost use mathlib.Core.Path.{_≡_};
-ghost use Rattle.dense.specs.Density.{first3, halved3, density3};
+ghost use Rattle.dense.specs.Density.{reaches3, first3, halved3, density3};
 
 // The least and the greatest density in kg/m³ that are sought.
 const LEAST: f64 = 50.0;
@@ -14,7 +16,19 @@ const MOST: f64 = 800.0;
 // The halvings of a bracket.
 const HALVINGS: u64 = 60;
 
-// Where the density lies: below the critical temperature on its side of the saturation line.
+// Whether p is at least the saturation pressure, of whichever case; it is not where there is none.
+fn reaches(s: SaturationPressure, p: f64) -> bool
+    ensures { λ r. ⌜ r ≡ reaches3 s p ⌝ }
+{
+    match s {
+        SaturationPressure::UpTo623(saturated) => saturated <= p,
+        SaturationPressure::Above623(saturated) => saturated <= p,
+        SaturationPressure::Nowhere => false,
+    }
+}
+
+// Where the density lies: below the critical temperature that of liquid, from the saturation pressure
+// on, and else that of vapour.
 fn first_bracket(p: f64, t: f64) -> Bracket
     ensures { λ r. ⌜ r ≡ first3 p t ⌝ }
 {
@@ -24,7 +38,7 @@ fn first_bracket(p: f64, t: f64) -> Bracket
             hi: MOST,
         };
     }
-    if saturation::ps(t) <= p {
+    if reaches(ps(t), p) {
         return Bracket {
             lo: Region3::D,
             hi: MOST,

@@ -10,6 +10,8 @@ use hot::Region5;
 use liquid::Region1;
 use properties::State;
 use reply::Answer;
+use saturation_line::SaturationPressure;
+use saturation_line::ps;
 use slopes::Derivative;
 use steam::Region2;
 
@@ -37,6 +39,14 @@ fn derived(d: Derivative) -> f64 {
     match d {
         Derivative::Value(v) => v,
         Derivative::Refused(_) => REFUSED,
+    }
+}
+
+fn saturated(s: SaturationPressure) -> f64 {
+    match s {
+        SaturationPressure::UpTo623(p) => p,
+        SaturationPressure::Above623(p) => p,
+        SaturationPressure::Nowhere => REFUSED,
     }
 }
 
@@ -90,8 +100,8 @@ fn worked(operation: u8, x: f64) -> f64 {
         b'1' => sum_of(Region1::state(x, 300.0 + 10.0 * x)),
         b'2' => sum_of(Region2::state(x, 700.0 + 10.0 * x)),
         b'h' => Region1::h(x, 300.0 + 10.0 * x),
-        b'a' => saturation::ps(300.0 + 20.0 * x),
-        b't' => saturation::ts(x),
+        b'a' => saturated(ps(300.0 + 20.0 * x)),
+        b't' => saturation_line::ts(x),
         b'b' => backward::t1_ph(x, 100.0 + 10.0 * x),
         b'c' => backward::t2_ps(0.1 * x, 7.5 + 0.1 * x),
         b'd' => backward::p1_hs(100.0 + 10.0 * x, 0.3 + 0.03 * x),

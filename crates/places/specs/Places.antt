@@ -5,8 +5,11 @@ use lib.Ieee.{Float, lt, le}
 use Rattle.arith.specs.F64.{f64}
 use Rattle.arith.specs.Printed.{less, printed}
 use Rattle.arith.specs.Bits.{finite}
-use Rattle.saturation.specs.Saturation.{psOf, tsOf}
-use Rattle.saturation.specs.Boundaries.{pB23, tB23}
+use Rattle.saturation_line.specs.Printed.{tsOf}
+use Rattle.saturation_line.specs.Pressure.{psOf}
+use Rattle.saturation_line.specs.declared.SaturationPressure.{SaturationPressure}
+use Rattle.saturation_line.specs.declared.SaturationPressure.the-variants.{UpTo623, Above623, Nowhere}
+use Rattle.boundaries.specs.Boundaries.{pB23, tB23}
 use Rattle.places.specs.declared.Place.{Place}
 use Rattle.places.specs.declared.Place.the-variants.{Equation, Refused}
 use Rattle.places.specs.declared.Side.{Side}
@@ -53,19 +56,41 @@ pMost = f64 100
 abbrev pub pMost5 : Float
 pMost5 = f64 50
 
--- P = ps(623.15), where the saturation line meets region 3
-unfoldable pub pEnd : Float
+-- P = ps(623.15), at the last temperature at which the saturation line parts regions 1 and 2
+unfoldable pub pEnd : SaturationPressure
 pEnd = psOf t623
+
+-- whether p is at most a saturation pressure of the case up to 623.15 K; of the other case, or of none, it is not
+abbrev pub upTo : SaturationPressure → Float → Bool
+upTo (UpTo623 ps) p = le p ps
+upTo (Above623 ps) p = false
+upTo Nowhere p = false
+
+-- p ≤ P
+unfoldable pub saturates : Float → Bool
+saturates p = upTo pEnd p
 
 -- ---- (p,T)
 
--- the region table, read downwards
-unfoldable pub tableOf : Float → Float → Place
-tableOf p t =
-    cond (le t t623) (cond (le (psOf t) p) (Equation Region1) (Equation Region2))
-    (cond (le t t863) (cond (le p (pB23 t)) (Equation Region2) (Equation Region3))
+-- up to 623.15 K, by the saturation pressure
+abbrev pub besideOf : Float → Float → Place
+besideOf p ps = cond (le ps p) (Equation Region1) (Equation Region2)
+
+-- above that, read downwards
+unfoldable pub aboveOf : Float → Float → Place
+aboveOf p t =
+    cond (le t t863) (cond (le p (pB23 t)) (Equation Region2) (Equation Region3))
     (cond (le t t1073) (Equation Region2)
-    (cond (le p pMost5) (Equation Region5) (Refused 4))))
+    (cond (le p pMost5) (Equation Region5) (Refused 4)))
+
+-- The region table of a T in its range: up to 623.15 K by the saturation pressure; above that, whether there still is one or none, its value is not used.
+abbrev pub linedOf : Float → Float → SaturationPressure → Place
+linedOf p t (UpTo623 ps) = besideOf p ps
+linedOf p t (Above623 ps) = aboveOf p t
+linedOf p t Nowhere = aboveOf p t
+
+unfoldable pub tableOf : Float → Float → Place
+tableOf p t = linedOf p t (psOf t)
 
 unfoldable pub placePT : Float → Float → Place
 placePT p t =
@@ -94,7 +119,7 @@ denseOf given p y =
 unfoldable pub rangedOf : Given → Float → Float → Side
 rangedOf given p y =
     cond (outside (propertyAt given Liquid p t273) (propertyAt given Vapour p t1073) y) (Side.Refused 6)
-    (cond (le p pEnd) (saturatedOf given p y)
+    (cond (saturates p) (saturatedOf given p y)
     (denseOf given p y))
 
 unfoldable pub placePY : Given → Float → Float → Side
@@ -105,7 +130,7 @@ placePY given p y =
 
 -- the temperature at which region 1 ends, and at which region 2 begins: the saturation line up to P, region 3's boundaries above
 unfoldable pub liquidEnd : Float → Float
-liquidEnd p = cond (le p pEnd) (tsOf p) t623
+liquidEnd p = cond (saturates p) (tsOf p) t623
 
 unfoldable pub vapourStart : Float → Float
-vapourStart p = cond (le p pEnd) (tsOf p) (tB23 p)
+vapourStart p = cond (saturates p) (tsOf p) (tB23 p)

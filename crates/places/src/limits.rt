@@ -1,7 +1,6 @@
 // The limits of the tables, and where region 1 ends and region 2 begins at p (specs/Places.antt).
 ghost use mathlib.Core.Path.{_≡_};
-ghost use lib.Ieee.{le};
-ghost use Rattle.places.specs.Places.{pEnd, liquidEnd, vapourStart};
+ghost use Rattle.places.specs.Places.{saturates, liquidEnd, vapourStart};
 
 // The temperatures in K at which the tables turn: where T begins, regions 1 and 3 meet, region 3 ends,
 // regions 2 and 5 meet, and T ends.
@@ -25,9 +24,9 @@ pub(crate) const P_MOST: f64 = 100.0;
 
 pub(crate) const P_MOST_5: f64 = 50.0;
 
-// Whether p is at most P = ps(623.15), where the saturation line meets region 3.
+// Whether p is at most P = ps(623.15), which is worked out once and for all.
 pub(crate) fn saturates(p: f64) -> bool
-    ensures { λ r. ⌜ r ≡ le p pEnd ⌝ }
+    ensures { λ r. ⌜ r ≡ saturates p ⌝ }
 {
     p <= 16.529164252604478
 }
@@ -37,7 +36,7 @@ pub fn liquid_end(p: f64) -> f64
     ensures { λ r. ⌜ r ≡ liquidEnd p ⌝ }
 {
     if saturates(p) {
-        saturation::ts(p)
+        saturation_line::ts(p)
     } else {
         T623
     }
@@ -48,8 +47,8 @@ pub fn vapour_start(p: f64) -> f64
     ensures { λ r. ⌜ r ≡ vapourStart p ⌝ }
 {
     if saturates(p) {
-        saturation::ts(p)
+        saturation_line::ts(p)
     } else {
-        saturation::t_b23(p)
+        boundaries::t_b23(p)
     }
 }

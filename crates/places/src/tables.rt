@@ -15,23 +15,31 @@ use crate::ranges::outside;
 use crate::ranges::wild;
 use equations::Equation;
 use equations::Phase;
+use saturation_line::SaturationPressure;
+use saturation_line::ps;
+use saturation_line::ts;
 use workings::Given;
 use workings::property;
 ghost use mathlib.Core.Path.{_≡_};
-ghost use Rattle.places.specs.Places.{tableOf, placePT, saturatedOf, denseOf, rangedOf, placePY};
+ghost use Rattle.places.specs.Places.{besideOf, aboveOf, tableOf, placePT, saturatedOf, denseOf, rangedOf, placePY};
 
-// The region table of (p,T), for a p and a T in its range.
-fn table(p: f64, t: f64) -> Place
-    ensures { λ r. ⌜ r ≡ tableOf p t ⌝ }
+// The equation at p up to 623.15 K: of region 1 from the saturation pressure on, of region 2 below it.
+fn beside(p: f64, saturated: f64) -> Place
+    ensures { λ r. ⌜ r ≡ besideOf p saturated ⌝ }
 {
-    if t <= T623 {
-        if saturation::ps(t) <= p {
-            return Place::Equation(Equation::Region1);
-        }
-        return Place::Equation(Equation::Region2);
+    if saturated <= p {
+        Place::Equation(Equation::Region1)
+    } else {
+        Place::Equation(Equation::Region2)
     }
+}
+
+// The region table of (p,T) above 623.15 K.
+fn above(p: f64, t: f64) -> Place
+    ensures { λ r. ⌜ r ≡ aboveOf p t ⌝ }
+{
     if t <= T863 {
-        if p <= saturation::p_b23(t) {
+        if p <= boundaries::p_b23(t) {
             return Place::Equation(Equation::Region2);
         }
         return Place::Equation(Equation::Region3);
@@ -43,6 +51,17 @@ fn table(p: f64, t: f64) -> Place
         return Place::Equation(Equation::Region5);
     }
     Place::Refused(4)
+}
+
+// The region table of (p,T), for a p and a T in its range.
+fn table(p: f64, t: f64) -> Place
+    ensures { λ r. ⌜ r ≡ tableOf p t ⌝ }
+{
+    match ps(t) {
+        SaturationPressure::UpTo623(saturated) => beside(p, saturated),
+        SaturationPressure::Above623(_) => above(p, t),
+        SaturationPressure::Nowhere => above(p, t),
+    }
 }
 
 // The equation of (p,T), or the refusal.
@@ -65,7 +84,7 @@ pub fn place_pt(p: f64, t: f64) -> Place
 fn saturated(given: Given, p: f64, y: f64) -> Side
     ensures { λ r. ⌜ r ≡ saturatedOf given p y ⌝ }
 {
-    let t = saturation::ts(p);
+    let t = ts(p);
     if y < property(given, Phase::Liquid, p, t) {
         return Side::Phase(Phase::Liquid);
     }
@@ -82,7 +101,7 @@ fn dense(given: Given, p: f64, y: f64) -> Side
     if y <= property(given, Phase::Liquid, p, T623) {
         return Side::Phase(Phase::Liquid);
     }
-    if y >= property(given, Phase::Vapour, p, saturation::t_b23(p)) {
+    if y >= property(given, Phase::Vapour, p, boundaries::t_b23(p)) {
         return Side::Phase(Phase::Vapour);
     }
     Side::Refused(5)

@@ -13,7 +13,8 @@ use Rattle.sums.specs.Quotients.{quotientOf}
 use Rattle.properties.specs.declared.Value.{Value}
 use Rattle.properties.specs.declared.Value.the-variants.{Missing}
 use Rattle.sheet.specs.declared.rows.Point.{Point}
-use Rattle.row_lines.specs.Lines.{cellOf, askedOf, verdictOf, valueColumn, valueColumns, answerLine, quotientLine, refusedLine}
+use Rattle.cells.specs.Cells.{cellOf}
+use Rattle.row_lines.specs.Lines.{askedOf, verdictOf, valueColumn, valueColumns, answerLine, quotientLine, refusedLine}
 
 pub refused-short : (n : ℕ) → length (refusedLine n) ≤ 29
 unfolding refusedLine

@@ -5,16 +5,15 @@ use mathlib.Core.List.{List, [], _∷_, _++_}
 use lib.Dec.{eqb}
 use lib.ListN.{length, getD}
 use Rattle.arith.specs.Bits.{floatOf}
+use Rattle.cells.specs.Cells.{cellOf}
 use Rattle.text.specs.Texts.{columnOf, blank, newline, numberColumn, joined}
-use Rattle.text.specs.declared.Cell.{Cell}
-use Rattle.text.specs.declared.Cell.the-variants as Cell
 use Rattle.sheet.specs.declared.rows.Point.{Point}
 use Rattle.reply.specs.Answers.{numberOf, regionOf, markOf, valuesOf}
 use Rattle.sums.specs.Queries.{answerOf}
 use Rattle.sums.specs.Quotients.{quotientOf}
 use Rattle.reply.specs.declared.Answer.{Answer}
 use Rattle.properties.specs.declared.Value.{Value}
-use Rattle.properties.specs.declared.Value.the-variants.{Is, Missing}
+use Rattle.properties.specs.declared.Value.the-variants.{Missing}
 use Rattle.slopes.specs.Answers as Slopes
 
 -- `refused N`, all that is said of a refused sheet
@@ -41,11 +40,6 @@ digitOf false = 48
 
 abbrev pub markByte : Answer → ℕ
 markByte a = cond (eqb (regionOf a) 0) 45 (digitOf (markOf a))
-
--- a value, or that there is none
-abbrev pub cellOf : Value → Cell
-cellOf (Is x) = Cell.Value x
-cellOf Missing = Cell.Empty
 
 -- one of the nine values p, T, v, u, h, s, cp, w, x
 abbrev pub valueColumn : List Value → ℕ → ℕ → List ℕ

@@ -1,12 +1,11 @@
 // The columns that lines are made of (specs/Lines.antt).
-use properties::Value;
+use cells::cell;
 use reply::Answer;
 use sheet::Point;
-use text::Cell;
 ghost use mathlib.Core.Path.{_≡_};
 ghost use Rattle.text.specs.Room.{Written};
 ghost use Rattle.reply.specs.Answers.{valuesOf};
-ghost use Rattle.row_lines.specs.Lines.{askedOf, verdictOf, digitOf, markByte, cellOf, valueColumns};
+ghost use Rattle.row_lines.specs.Lines.{askedOf, verdictOf, digitOf, markByte, valueColumns};
 
 // The query of a row.
 pub(crate) fn asked(row: Point) -> Answer
@@ -51,16 +50,6 @@ pub(crate) fn mark(a: Answer) -> u8
         b'-'
     } else {
         digit(reply::mark(a))
-    }
-}
-
-// A value as a column.
-pub(crate) fn cell(v: Value) -> Cell
-    ensures { λ r. ⌜ r ≡ cellOf v ⌝ }
-{
-    match v {
-        Value::Is(x) => Cell::Value(x),
-        Value::Missing => Cell::Empty,
     }
 }
 

@@ -1,9 +1,9 @@
 // A line each (specs/Lines.antt).
 use crate::columns::asked;
-use crate::columns::cell;
 use crate::columns::mark;
 use crate::columns::values;
 use crate::columns::verdict;
+use cells::cell;
 use sheet::Point;
 ghost use mathlib.Core.Path.{_≡_};
 ghost use Rattle.text.specs.Room.{Written};

@@ -1,5 +1,5 @@
 // The public face of the formulation: region, state and derivatives of water and steam from (p,T),
-// (p,h), (p,s) or (h,s), or the refusal number. Every call takes every number; what it answers is
+// (p,h), (p,s) or (h,s), and the saturation pressure, or the refusal number. Every call takes every number; what it answers is
 // said in specs/. Units: p in MPa, T in K, v in m³/kg, u and h in kJ/kg, s and cp in kJ/(kg K), w in
 // m/s.
 mod candidates;
@@ -13,3 +13,4 @@ pub use queries::from_ph;
 pub use queries::from_ps;
 pub use queries::from_pt;
 pub use queries::query;
+pub use saturation_reply::saturation;

@@ -11,7 +11,7 @@ use Rattle.arith.specs.Printed.{less, printed}
 use Rattle.arith.specs.Power.{raised, powerOf}
 use Rattle.elementary.specs.Root.{floorRoot, nearRoot, rootUnits, rootOf, fourthRootOf}
 use Rattle.terms.specs.Sum.{sumOf, sumFrom, plus, term, gone, scaled}
-use Rattle.saturation.specs.Boundaries.{p2bc}
+use Rattle.boundaries.specs.Boundaries.{p2bc}
 use Rattle.backward.specs.Equation.{sumAt}
 use Rattle.backward.specs.T1ph as T1ph
 use Rattle.backward.specs.T1ps as T1ps

@@ -1,9 +1,9 @@
--- The definitions give the numbers that the papers print to check a program by: one point of each of Tables A3, A6 and A10 of 002 and of Table 42 of R7-97, and the
--- pressure P = ps(623.15) at which regions 1, 2 and 3 meet. The f64 beside each property agrees with the printed value in all its nine digits. Shown by computing.
+-- The definitions give the numbers that the papers print to check a program by: one point of each of Tables A3, A6, A10 and A12 of 002 and of Table 42 of R7-97, the
+-- pressure P = ps(623.15) at which regions 1, 2 and 3 meet, and where the saturation pressure stands. The f64 beside each property agrees with the printed value in all its nine digits. Shown by computing.
 -- Assumes nothing.
 use mathlib.Core.Path.{_≡_, refl}
 use mathlib.Core.Bool.{false}
-use lib.Ieee.{binary64, round, add, sub, mul, div, neg, ofInt, ofBits}
+use lib.Ieee.{binary64, round, add, sub, mul, div, neg, lt, eq, le, ofInt, ofBits}
 use Rattle.arith.specs.F64.{f64}
 use Rattle.arith.specs.Printed.{printed, less}
 use Rattle.arith.specs.Power.{raised, powerOf}
@@ -17,7 +17,9 @@ use Rattle.vapour.specs.Vapour.{vapourOf, vapourUnrooted}
 use Rattle.steam.specs.Region2.{ideal2, residual2, point2, gamma2, unrootedOf2, stateOf2, state2}
 use Rattle.hot.specs.Region5.{ideal5, residual5, point5, gamma5, unrootedOf5, stateOf5, state5}
 use Rattle.dense.specs.Region3.{table3, point3, phiOf3, phi3, pressureOf3, pressure3, unrootedAt3, unrootedOf3, stateOf3, state3}
-use Rattle.saturation.specs.Saturation.{psOf, tsOf}
+use Rattle.saturation_line.specs.Printed.{equation28, tsOf}
+use Rattle.saturation_line.specs.Pressure.{psOf}
+use Rattle.saturation_line.specs.declared.SaturationPressure.the-variants.{UpTo623, Above623, Nowhere}
 
 -- Table A3: p = 3 MPa, T = 300 K
 pub region-1 : state1 (f64 3) (f64 300) ≡ record {
@@ -72,10 +74,44 @@ pub region-5 : state5 (f64 30) (f64 2000) ≡ record {
 unfolding state5 stateOf5 rootedOf unrootedOf5 gamma5 point5 ideal5 residual5 vapourUnrooted vapourOf unrootedOf sixOf sumOf sumFrom plus term gone scaled powerOf raised logOf logUnits partsOf partsAt logSum series ln2 add sub mul div neg round ofInt ofBits printed rootOf rootUnits nearRoot floorRoot
 region-5 = refl
 
--- P, in MPa
-pub saturation-pressure : psOf (printed false 62315 (less 2)) ≡ ofBits binary64 0x4030_8777_4ef7_2605
-unfolding psOf add sub mul div neg round ofInt ofBits printed rootOf rootUnits nearRoot floorRoot
+-- Table A12: the saturation pressure at 300 K, in MPa
+pub saturation-pressure-a12 : psOf (f64 300) ≡ UpTo623 (ofBits binary64 0x3f6c_f8c3_fbc8_dfab)
+unfolding psOf equation28 add sub mul div neg lt eq le round ofInt ofBits printed rootOf rootUnits nearRoot floorRoot
+saturation-pressure-a12 = refl
+
+-- P, the pressure at 623.15 K
+pub saturation-pressure : psOf (printed false 62315 (less 2)) ≡ UpTo623 (ofBits binary64 0x4030_8777_4ef7_2605)
+unfolding psOf equation28 add sub mul div neg lt eq le round ofInt ofBits printed rootOf rootUnits nearRoot floorRoot
 saturation-pressure = refl
+
+-- one f64 above 623.15 K it is of the other case
+pub saturation-pressure-above : psOf (ofBits binary64 0x4083_7933_3333_3334) ≡ Above623 (ofBits binary64 0x4030_8777_4ef7_2626)
+unfolding psOf equation28 add sub mul div neg lt eq le round ofInt ofBits printed rootOf rootUnits nearRoot floorRoot
+saturation-pressure-above = refl
+
+-- and so at the critical temperature: 22.0640000003 MPa, where 002 has 22.064 for the critical pressure
+pub saturation-pressure-critical : psOf (printed false 647096 (less 3)) ≡ Above623 (ofBits binary64 0x4036_1062_4dd4_5231)
+unfolding psOf equation28 add sub mul div neg lt eq le round ofInt ofBits printed rootOf rootUnits nearRoot floorRoot
+saturation-pressure-critical = refl
+
+-- the line's lower end, 273.15 K
+pub saturation-pressure-at-273 : psOf (ofBits binary64 0x4071_1266_6666_6666) ≡ UpTo623 (ofBits binary64 0x3f44_0739_3af2_73cc)
+unfolding psOf equation28 add sub mul div neg lt eq le round ofInt ofBits printed rootOf rootUnits nearRoot floorRoot
+saturation-pressure-at-273 = refl
+
+-- one f64 outside its ends there is none
+pub no-saturation-pressure-below : psOf (ofBits binary64 0x4071_1266_6666_6665) ≡ Nowhere
+unfolding psOf lt eq le round ofInt ofBits printed
+no-saturation-pressure-below = refl
+
+pub no-saturation-pressure-above : psOf (ofBits binary64 0x4084_38c4_9ba5_e355) ≡ Nowhere
+unfolding psOf lt eq le round ofInt ofBits printed
+no-saturation-pressure-above = refl
+
+-- and none at 700 K
+pub no-saturation-pressure-at-700 : psOf (f64 700) ≡ Nowhere
+unfolding psOf lt eq le round ofInt ofBits printed
+no-saturation-pressure-at-700 = refl
 
 -- the temperature that P gives back, 623.1500000000016 K: not 623.15
 pub saturation-temperature : tsOf (ofBits binary64 0x4030_8777_4ef7_2605) ≡ ofBits binary64 0x4083_7933_3333_3341

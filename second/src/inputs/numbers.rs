@@ -8,7 +8,7 @@ use crate::arithmetic::power;
 const EXPONENTS: [i8; 10] = [-128, -41, -3, -1, 0, 1, 2, 17, 58, 127];
 
 /// Bit patterns of NaNs: quiet and signalling, both signs, lowest and highest payload.
-const NANS: [u64; 6] = [
+pub const NANS: [u64; 6] = [
     0x7ff8_0000_0000_0000,
     0xfff8_0000_0000_0000,
     0x7ff0_0000_0000_0001,

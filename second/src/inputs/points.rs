@@ -1,16 +1,17 @@
 //! Queries of every kind: each tie and range end with the numbers next to it, points
 //! spread over the regions, and numbers that are no points at all.
 
+use super::line::on_the_line;
 use super::random::Random;
 use crate::answers::{answer, Answer};
 use crate::backward::S_2BC;
-use crate::basic::{
-    b23_pressure, b23_temperature, b2ab_enthalpy, b2bc_pressure, saturation_pressure,
-    saturation_temperature, Point, Region,
-};
+use crate::basic::{b23_pressure, b23_temperature, b2ab_enthalpy, b2bc_pressure, Point, Region};
 use crate::regions::{
     highest_saturation_pressure, Quantity, P_HIGHEST, P_LOWEST, P_LOWEST_BACKWARD, P_REGION_5,
-    T_13, T_25, T_B23, T_HIGHEST, T_LOWEST,
+    T_25, T_B23, T_HIGHEST,
+};
+use crate::saturation::{
+    saturation_pressure, saturation_temperature, SaturationPressure, T_13, T_LOWEST,
 };
 
 /// A query: its kind and its two numbers.
@@ -18,7 +19,7 @@ pub type Query = (u64, f64, f64);
 
 /// Numbers that no range holds or that stand at an end of the f64s; NaNs quiet and
 /// signalling, of both signs.
-const STRANGE: [f64; 16] = [
+pub const STRANGE: [f64; 16] = [
     f64::NAN,
     f64::from_bits(0xfff8_0000_0000_0000),
     f64::from_bits(0x7ff0_0000_0000_0001),
@@ -63,7 +64,7 @@ fn pt_ties() -> Vec<Query> {
     let mut ties = Vec::new();
     for t in ends.into_iter().chain(inside) {
         let fixed = [P_LOWEST, P_LOWEST_BACKWARD, P_REGION_5, P_HIGHEST];
-        let moving = [saturation_pressure(t), b23_pressure(t)];
+        let moving = [on_the_line(t), b23_pressure(t)];
         let pressures = around_all(&[&fixed[..], &moving[..]].concat());
         ties.extend(pressures.into_iter().map(|p| (1, p, t)));
     }
@@ -132,7 +133,7 @@ fn hs_ties() -> Vec<Query> {
 fn corners() -> Vec<(Region, f64, f64)> {
     let mut corners = Vec::new();
     for t in [T_LOWEST, 300.0, 400.0, 500.0, 600.0, T_13] {
-        let ps = saturation_pressure(t);
+        let ps = on_the_line(t);
         corners.extend([ps, ps * 1.001, 50.0, P_HIGHEST].map(|p| (Region::One, p, t)));
         corners.extend([P_LOWEST_BACKWARD, ps, ps * 0.999].map(|p| (Region::Two, p, t)));
     }
@@ -247,7 +248,7 @@ fn pt(random: &mut Random) -> Query {
         _ => random.between(T_LOWEST, T_25),
     };
     if random.below(8) == 0 {
-        let pressures = [saturation_pressure(t), b23_pressure(t)];
+        let pressures = [on_the_line(t), b23_pressure(t)];
         let p = random.pick(&pressures);
         return (1, random.next_to(p), t);
     }
@@ -338,14 +339,16 @@ fn hs(random: &mut Random) -> Query {
 fn state(random: &mut Random) -> (f64, f64) {
     let point = if random.below(2) == 0 {
         let t = random.between(T_LOWEST, T_13);
-        let p = random.log_between(saturation_pressure(t), P_HIGHEST);
+        let p = random.log_between(on_the_line(t), P_HIGHEST);
         Point::new(Region::One, p, t)
     } else {
         let t = random.between(T_LOWEST, T_25);
-        let highest = match t {
-            t if t <= T_13 => saturation_pressure(t),
-            t if t <= T_B23 => b23_pressure(t).min(P_HIGHEST),
-            _ => P_HIGHEST,
+        let highest = match saturation_pressure(t) {
+            SaturationPressure::To623(ps) => ps,
+            // Above 863.15 K the boundary's equation goes on above all pressures.
+            SaturationPressure::To647(_) | SaturationPressure::NoAnswer => {
+                b23_pressure(t).min(P_HIGHEST)
+            }
         };
         let p = random.log_between(P_LOWEST_BACKWARD.min(highest), highest);
         Point::new(Region::Two, p, t)

@@ -19,10 +19,10 @@
 
 use crate::backward::{p1_hs, p2_hs, t1_ph, t1_ps, t2_ph, t2_ps, Subregion};
 use crate::basic::{
-    b23_pressure, b23_temperature, b2ab_enthalpy, b2bc_pressure, saturation_pressure,
-    saturation_temperature, Point, Properties, Region,
+    b23_pressure, b23_temperature, b2ab_enthalpy, b2bc_pressure, Point, Properties, Region,
 };
 use crate::helmholtz::DensePoint;
+use crate::saturation::{saturation_pressure, saturation_temperature, SaturationPressure};
 use Subregion::{A, B, C};
 
 /// One printed check value and what is computed for it.
@@ -69,7 +69,7 @@ fn checks() -> Vec<Check> {
     all.extend(property_table("002-A3", Region::One, &A3));
     all.extend(property_table("002-A6", Region::Two, &A6));
     all.extend(dense_table("002-A10", &A10));
-    all.extend(A12.map(|(t, ps)| of_one("002-A12", "ps", saturation_pressure, t, ps)));
+    all.extend(A12.map(|(t, ps)| of_one("002-A12", "ps", ps_or_nan, t, ps)));
     all.extend(property_table("R7-97-42", Region::Five, &R7_42));
     all.extend(A17.map(|row| of_two("002-A17", "T1", t1_ph, row)));
     all.extend(A19.map(|row| of_two("002-A19", "T1", t1_ps, row)));
@@ -81,6 +81,14 @@ fn checks() -> Vec<Check> {
     all.push(of_one("003-5", "h2ab", b2ab_enthalpy, "7", "0.3376437884E4"));
     all.extend(HS9.map(|(subregion, row)| of_subregion("003-9", 'p', p2_hs, subregion, row)));
     all
+}
+
+/// ps(T) of a check point; without an answer a NaN, which agrees with nothing printed.
+fn ps_or_nan(t: f64) -> f64 {
+    match saturation_pressure(t) {
+        SaturationPressure::To623(ps) | SaturationPressure::To647(ps) => ps,
+        SaturationPressure::NoAnswer => f64::NAN,
+    }
 }
 
 /// A row of two arguments and the value printed for them.

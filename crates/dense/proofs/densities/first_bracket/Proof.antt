@@ -6,7 +6,7 @@ use borrow.Author.Needs.{needs}
 use lib.Ieee.{le, round, ofBits, ofInt}
 use Rattle.arith.specs.Printed.{printed}
 use Rattle.dense.specs.Region3.{T*}
-use Rattle.dense.specs.Density.{first3}
+use Rattle.dense.specs.Density.{reaches3, first3}
 use Rattle.dense.proofs.densities.first_bracket.Statement.{statement}
 use Rattle.dense.proofs.densities.first_bracket.Tie as tie
 
@@ -17,18 +17,16 @@ returns c = let above : le T* (c .before .args .t) ≡ true = c .if1 .taken in r
 returns-2 : tie.Need-returns-2
 unfolding first3 printed round ofBits ofInt
 returns-2 c =
-    let a = c .before .before .before .args in
-    let below : le T* (a .t) ≡ false = c .before .before .if1 .left in
-    let liquid : le (c .before .ps .result) (a .p) ≡ true = c .if2 .taken in
-    rw (below, ← c .before .ps .ensures, liquid) refl
+    let line = c .before .before in
+    let below : le T* (line .before .before .args .t) ≡ false = line .before .if1 .left in
+    rw (below, ← line .ps .ensures, ← c .before .reaches .ensures, c .if2 .taken) refl
 
 returns-3 : tie.Need-returns-3
 unfolding first3 printed round ofBits ofInt
 returns-3 c =
-    let a = c .before .before .before .args in
-    let below : le T* (a .t) ≡ false = c .before .before .if1 .left in
-    let vapour : le (c .before .ps .result) (a .p) ≡ false = c .if2 .left in
-    rw (below, ← c .before .ps .ensures, vapour) refl
+    let line = c .before .before in
+    let below : le T* (line .before .before .args .t) ≡ false = line .before .if1 .left in
+    rw (below, ← line .ps .ensures, ← c .before .reaches .ensures, c .if2 .left) refl
 
 pub first-bracket-spec : {M : Type 1} → statement M
-first-bracket-spec = tie.close (tie.spec returns (λ c κs. search needs) returns-2 returns-3)
+first-bracket-spec = tie.close (tie.spec returns (λ c κs. search needs) (λ c κs. search needs) returns-2 returns-3)

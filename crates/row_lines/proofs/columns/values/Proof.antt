@@ -4,7 +4,7 @@ use Rattle.text.specs.Texts.{columnOf, joined, blank, newline}
 use Rattle.text.specs.declared.Cell.{Cell}
 use Rattle.properties.specs.declared.Value.{Value}
 use Rattle.properties.specs.declared.Value.the-variants.{Missing}
-use Rattle.row_lines.specs.Lines.{cellOf}
+use Rattle.cells.specs.Cells.{cellOf}
 use Rattle.row_lines.proofs.NineValues.{value-at}
 use Prim.Native.Nat.{ℕ, _-_, _≤_}
 use mathlib.Core.Path.{_≡_, ap, _∙_}

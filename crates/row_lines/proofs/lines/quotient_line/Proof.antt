@@ -9,7 +9,8 @@ use Rattle.text.proofs.Pieces.{then, said}
 use Rattle.sums.specs.Quotients.{quotientOf}
 use Rattle.slopes.specs.declared.Derivative.{Derivative}
 use Rattle.slopes.specs.Answers.{numberOf, valueOf}
-use Rattle.row_lines.specs.Lines.{cellOf, quotientLine}
+use Rattle.cells.specs.Cells.{cellOf}
+use Rattle.row_lines.specs.Lines.{quotientLine}
 use borrow.Author.Needs.{needs}
 use Rattle.row_lines.proofs.lines.quotient_line.Statement.{statement}
 use Rattle.row_lines.proofs.lines.quotient_line.Tie as tie

@@ -1,2 +1,0 @@
-pub mod Saturation
-pub mod Boundaries

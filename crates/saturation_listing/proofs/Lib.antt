@@ -1,0 +1,3 @@
+-- `Fits`: the text is not cut. `Only`: no second result.
+pub mod Fits
+pub mod Only
