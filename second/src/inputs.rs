@@ -4,7 +4,6 @@
 mod damage;
 mod dense;
 mod hot;
-mod line;
 mod numbers;
 mod pairs;
 mod papers;

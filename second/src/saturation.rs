@@ -39,9 +39,9 @@ impl SaturationPressure {
 /// Saturation pressure ps(T).
 pub fn saturation_pressure(t: f64) -> SaturationPressure {
     if (T_LOWEST..=T_13).contains(&t) {
-        To623(equation(t))
+        To623(curve(t))
     } else if t > T_13 && t <= T_CRITICAL {
-        To647(equation(t))
+        To647(curve(t))
     } else {
         NoAnswer
     }
@@ -60,8 +60,10 @@ pub fn placed_pressure(t: f64) -> Result<(u8, f64), Refusal> {
     }
 }
 
-/// Eq. (28) as printed. It gives numbers off the line too, and they mean nothing.
-fn equation(t: f64) -> f64 {
+/// Eq. (28) as printed, at any T. Off the line its numbers mean nothing. Inputs alone take
+/// them, to lie next to where a program that goes by the equation whatever T is would change
+/// its answer; whoever wants a saturation pressure asks `saturation_pressure`.
+pub fn curve(t: f64) -> f64 {
     let [n1, n2, n3, n4, n5, n6, n7, n8, n9, n10] = A11;
     let theta = t + n9 / (t - n10);
     let square = theta * theta;

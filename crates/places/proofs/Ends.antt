@@ -1,4 +1,5 @@
--- P = ps(623.15), worked out, is 16.529164252604478 MPa, of the case up to 623.15 K, so that p ≤ P is a comparison with what Eq. (28) gives at 623.15 K. Assumes nothing.
+-- P = ps(623.15), worked out, is 16.529164252604478 MPa, of the case up to 623.15 K, so that p ≤ P is a comparison with what Eq. (28) gives at 623.15 K.
+-- Assumes nothing.
 use mathlib.Core.Path.{_≡_, refl}
 use mathlib.Core.Bool.{Bool}
 use lib.Ieee.{Float, binary64, round, ofBits, ofInt, add, sub, mul, div, neg, lt, eq, le}

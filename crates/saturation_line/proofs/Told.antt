@@ -18,6 +18,14 @@ use Rattle.saturation_line.specs.declared.SaturationPressure.the-variant
 abbrev pub onLine : Float → Bool
 onLine t = le t273 t && le t t647
 
+-- NaN and the infinities have no saturation pressure
+pub not-finite-nowhere : (t : Float) → finite t ≡ false → psOf t ≡ Nowhere
+unfolding finite psOf lt eq le printed round
+not-finite-nowhere nan h = refl
+not-finite-nowhere (inf true) h = refl
+not-finite-nowhere (inf false) h = refl
+not-finite-nowhere (fin s m e) h = absurd (true≢false h)
+
 -- ---- the tests on T
 
 from-273-to-623 : le t273 t623 ≡ true
@@ -108,11 +116,3 @@ number-told t = number-by (upTo623 t) (above623 t) (equation28 t) ∙ ap (λ (b 
 pub values-told : (t : Float) → valuesOf (psOf t) ≡ cond (onLine t) (equation28 t ∷ []) []
 unfolding psOf
 values-told t = values-by (upTo623 t) (above623 t) (equation28 t) ∙ ap (λ (b : Bool). cond b (equation28 t ∷ []) []) (exhaustive t)
-
--- what is not finite has none
-pub not-finite-nowhere : (t : Float) → finite t ≡ false → psOf t ≡ Nowhere
-unfolding finite psOf lt eq le printed round
-not-finite-nowhere nan h = refl
-not-finite-nowhere (inf true) h = refl
-not-finite-nowhere (inf false) h = refl
-not-finite-nowhere (fin s m e) h = absurd (true≢false h)

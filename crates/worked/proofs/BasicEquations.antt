@@ -1,6 +1,6 @@
 -- The definitions give the numbers that the papers print to check a program by: one point of each of Tables A3, A6, A10 and A12 of 002 and of Table 42 of R7-97, the
--- pressure P = ps(623.15) at which regions 1, 2 and 3 meet, and where the saturation pressure stands. The f64 beside each property agrees with the printed value in all its nine digits. Shown by computing.
--- Assumes nothing.
+-- pressure P = ps(623.15) at which regions 1, 2 and 3 meet, and where the saturation pressure stands. The f64 beside each property agrees with the printed value in
+-- all its nine digits. Shown by computing. Assumes nothing.
 use mathlib.Core.Path.{_≡_, refl}
 use mathlib.Core.Bool.{false}
 use lib.Ieee.{binary64, round, add, sub, mul, div, neg, lt, eq, le, ofInt, ofBits}

@@ -1,12 +1,11 @@
 //! (p,T) queries in region 3 and next to it: at saturation up to the critical point, at the
 //! boundary B23, at the ends of the region, and all over it.
 
-use super::line::on_the_line;
 use super::points::{around, around_all, Query};
 use super::random::Random;
 use crate::basic::{b23_pressure, b23_temperature};
 use crate::regions::{highest_saturation_pressure, P_HIGHEST, T_B23};
-use crate::saturation::{T_13, T_CRITICAL};
+use crate::saturation::{curve, T_13, T_CRITICAL};
 
 /// The critical pressure, in MPa.
 const P_CRITICAL: f64 = 22.064;
@@ -19,7 +18,7 @@ pub fn ties() -> Vec<Query> {
     for t in ends.into_iter().chain(inside) {
         let mut pressures = vec![b23_pressure(t), P_HIGHEST];
         if t <= T_CRITICAL.next_up() {
-            pressures.extend([on_the_line(t), P_CRITICAL]);
+            pressures.extend([curve(t), P_CRITICAL]);
         }
         ties.extend(around_all(&pressures).into_iter().map(|p| (1, p, t)));
     }
@@ -50,14 +49,14 @@ fn near_saturation(random: &mut Random) -> (f64, f64) {
         0 => T_CRITICAL - random.log_between(1e-9, 1.0),
         _ => random.between(T_13, T_CRITICAL),
     };
-    (random.near(on_the_line(t), 1e-2), t)
+    (random.near(curve(t), 1e-2), t)
 }
 
 /// So little below the critical temperature and below ps(T) that some of these have no
 /// density in the bracket that is theirs.
 fn near_the_end_of_saturation(random: &mut Random) -> (f64, f64) {
     let t = T_CRITICAL - random.log_between(1e-12, 1e-4);
-    (on_the_line(t) - random.log_between(1e-12, 1e-8), t)
+    (curve(t) - random.log_between(1e-12, 1e-8), t)
 }
 
 /// A pressure next to B23's at T, or a temperature next to B23's at p; of those that are
@@ -111,9 +110,9 @@ mod tests {
         let mut random = Random::new(6);
         let found = in_region(3, (0..4000).map(|_| any(&mut random)));
         let many = |what: &str, test: &dyn Fn(f64, f64) -> bool| many(&found, what, test);
-        let off = |p: f64, t| p - on_the_line(t);
+        let off = |p: f64, t| p - curve(t);
         let above = |p: f64, t| p - b23_pressure(t);
-        many("at ps", &|p, t| t < T_CRITICAL && around(on_the_line(t)).contains(&p));
+        many("at ps", &|p, t| t < T_CRITICAL && around(curve(t)).contains(&p));
         many("on B23", &|p, t| {
             p == b23_pressure(t).next_up() || t == b23_temperature(p).next_down()
         });

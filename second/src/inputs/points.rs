@@ -1,7 +1,6 @@
 //! Queries of every kind: each tie and range end with the numbers next to it, points
 //! spread over the regions, and numbers that are no points at all.
 
-use super::line::on_the_line;
 use super::random::Random;
 use crate::answers::{answer, Answer};
 use crate::backward::S_2BC;
@@ -11,7 +10,7 @@ use crate::regions::{
     T_25, T_B23, T_HIGHEST,
 };
 use crate::saturation::{
-    saturation_pressure, saturation_temperature, SaturationPressure, T_13, T_LOWEST,
+    curve, saturation_pressure, saturation_temperature, SaturationPressure, T_13, T_LOWEST,
 };
 
 /// A query: its kind and its two numbers.
@@ -64,7 +63,7 @@ fn pt_ties() -> Vec<Query> {
     let mut ties = Vec::new();
     for t in ends.into_iter().chain(inside) {
         let fixed = [P_LOWEST, P_LOWEST_BACKWARD, P_REGION_5, P_HIGHEST];
-        let moving = [on_the_line(t), b23_pressure(t)];
+        let moving = [curve(t), b23_pressure(t)];
         let pressures = around_all(&[&fixed[..], &moving[..]].concat());
         ties.extend(pressures.into_iter().map(|p| (1, p, t)));
     }
@@ -133,7 +132,7 @@ fn hs_ties() -> Vec<Query> {
 fn corners() -> Vec<(Region, f64, f64)> {
     let mut corners = Vec::new();
     for t in [T_LOWEST, 300.0, 400.0, 500.0, 600.0, T_13] {
-        let ps = on_the_line(t);
+        let ps = curve(t);
         corners.extend([ps, ps * 1.001, 50.0, P_HIGHEST].map(|p| (Region::One, p, t)));
         corners.extend([P_LOWEST_BACKWARD, ps, ps * 0.999].map(|p| (Region::Two, p, t)));
     }
@@ -248,7 +247,7 @@ fn pt(random: &mut Random) -> Query {
         _ => random.between(T_LOWEST, T_25),
     };
     if random.below(8) == 0 {
-        let pressures = [on_the_line(t), b23_pressure(t)];
+        let pressures = [curve(t), b23_pressure(t)];
         let p = random.pick(&pressures);
         return (1, random.next_to(p), t);
     }
@@ -339,7 +338,7 @@ fn hs(random: &mut Random) -> Query {
 fn state(random: &mut Random) -> (f64, f64) {
     let point = if random.below(2) == 0 {
         let t = random.between(T_LOWEST, T_13);
-        let p = random.log_between(on_the_line(t), P_HIGHEST);
+        let p = random.log_between(curve(t), P_HIGHEST);
         Point::new(Region::One, p, t)
     } else {
         let t = random.between(T_LOWEST, T_25);

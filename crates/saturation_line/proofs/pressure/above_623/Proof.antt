@@ -1,4 +1,5 @@
--- `saturation_line::pressure::above_623` meets its contract: above 623.15 K, and then up to 647.096 K; its literals are the printed temperatures, which computing shows. Assumes nothing.
+-- `saturation_line::pressure::above_623` meets its contract: above 623.15 K, and then up to 647.096 K; its literals are the printed temperatures,
+-- which computing shows. Assumes nothing.
 use mathlib.Core.Path.{_≡_, refl}
 use mathlib.Core.Bool.{true, false}
 use lib.Ieee.{lt, round, ofBits}

@@ -1,4 +1,5 @@
--- `saturation_line::pressure::up_to_623` meets its contract: from 273.15 K on, and then up to 623.15 K; its literals are the printed temperatures, which computing shows. Assumes nothing.
+-- `saturation_line::pressure::up_to_623` meets its contract: from 273.15 K on, and then up to 623.15 K; its literals are the printed temperatures,
+-- which computing shows. Assumes nothing.
 use mathlib.Core.Path.{_≡_, refl}
 use mathlib.Core.Bool.{true, false}
 use lib.Ieee.{le, round, ofBits}
