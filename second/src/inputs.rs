@@ -11,6 +11,7 @@ mod points;
 mod random;
 mod runs;
 mod temperatures;
+mod tours;
 mod writings;
 
 use crate::outputs::most_bytes;
@@ -37,6 +38,8 @@ pub enum Manner {
     About(Area),
     /// One of the two runs of a pair, in which one model does the same; for `replay` alone.
     Pair(Side),
+    /// A run that shows each rule on the number of halvings; for `replay` alone.
+    Tour,
 }
 
 impl Manner {
@@ -53,6 +56,7 @@ impl Manner {
             "hot" if reads_queries(program) => Some(Manner::About(Area::Hot)),
             "one" if program == Program::Replay => Some(Manner::Pair(Side::One)),
             "other" if program == Program::Replay => Some(Manner::Pair(Side::Other)),
+            "tour" if program == Program::Replay => Some(Manner::Tour),
             _ => None,
         }
     }
@@ -61,7 +65,8 @@ impl Manner {
 /// Input for `program`: `count` is the number of random records (`arithmetic`), of
 /// temperatures (`saturation`), of rows of a sheet (`regions`, `answers`, `quotients`; of a
 /// damaged one the most) or to be written (`written`; of a damaged input the most), or of
-/// desk calls (`replay`; of a run of a pair, of its model's calls). The programs
+/// desk calls (`replay`; of a run of a pair, of its model's calls; of a tour, of the calls
+/// at random that end it). The programs
 /// `check_values`, `desk_run` and `plant` read nothing.
 pub fn of(program: Program, seed: u64, count: usize, manner: Manner) -> Vec<u8> {
     let mut random = Random::new(!seed);
@@ -78,6 +83,7 @@ pub fn of(program: Program, seed: u64, count: usize, manner: Manner) -> Vec<u8> 
         }
         Manner::About(area) => papers::queries_about(area, seed, count),
         Manner::Pair(side) => pairs::records(seed, count, side),
+        Manner::Tour => tours::records(seed, count),
     }
 }
 

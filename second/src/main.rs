@@ -6,7 +6,7 @@
 //!
 //! NAME is a program's. MANNER is whole (if none is given), damaged, empty, cut,
 //! oversized or random; of regions, answers and quotients also dense or hot; of replay
-//! also one or other, the two runs of a pair.
+//! also one or other, the two runs of a pair, or tour.
 
 // Printed decimals stay as they are printed.
 #![allow(clippy::approx_constant, clippy::excessive_precision)]
@@ -36,7 +36,7 @@ const USAGE: &str = "usage: second inputs NAME SEED COUNT [MANNER]
        second outputs NAME
 names: arithmetic check_values saturation regions answers quotients written desk_run replay plant
 manners: whole damaged empty cut oversized random;
-         of regions, answers, quotients also dense hot; of replay also one other";
+         of regions, answers, quotients also dense hot; of replay also one other tour";
 
 /// The programs that are compared, by the names they are built under.
 #[derive(Clone, Copy, PartialEq, Eq)]

@@ -1,5 +1,5 @@
-//! The refusal numbers of 01, with 4 and 5 as M-101 and M-100 of 02 have them, and 3 for a
-//! saturation pressure too (M-103).
+//! The refusal numbers of 01, with 4 and 5 as M-101 and M-100 of 02 have them, 3 for a
+//! saturation pressure too (M-103), and 9 for a number of halvings too (M-104).
 
 /// A refusal, by its number.
 #[derive(Clone, Copy, Debug, PartialEq, Eq)]
@@ -21,7 +21,7 @@ pub const OUT_OF_RANGE: Refusal = Refusal(6);
 pub const NO_REGION: Refusal = Refusal(7);
 /// A wet state where one phase is needed, or a denominator zero or not finite.
 pub const NOT_SINGLE: Refusal = Refusal(8);
-/// Unknown caller, kind or property number.
+/// Unknown caller, kind or property number, or a number of halvings outside 10 to 50.
 pub const UNKNOWN: Refusal = Refusal(9);
 /// Four tickets open.
 pub const FOUR_OPEN: Refusal = Refusal(10);

@@ -3,7 +3,7 @@ use Prim.Native.Nat.{ℕ}
 use mathlib.Core.Path.{_≡_, refl}
 use mathlib.Core.List.{[], _∷_, _++_, append-assoc}
 use lib.Ieee.{Float}
-use Rattle.text.specs.Texts.{decimalFrom, decimalOf, columnOf, blank, newline, numberColumn, floatColumn}
+use Rattle.text.specs.Texts.{decimalFrom, decimalOf, valueOf, columnOf, blank, newline, numberColumn, floatColumn}
 use Rattle.equations.specs.Equations.{regionOf}
 use Rattle.states.specs.declared.Single.{Single}
 use Rattle.settle.specs.declared.Settled.{Settled}
@@ -27,9 +27,10 @@ module _ (call : Call) where
   unfolding answerOf handedOf columnsOf lineOf columnOf
   of-bracket n lo hi = rw no-refusal (simp append-assoc)
 
-  pub of-state : (s : Settled) → 48 ∷ lineOf (stateColumns (s .single)) ≡ answerOf call (State s)
-  unfolding answerOf handedOf columnsOf stateColumns
-  of-state s = rw no-refusal
+  pub of-state : (s : Settled) (n : ℕ) (lo hi : Float)
+      → 48 ∷ lineOf (stateColumns (s .single) ++ decimalOf n ∷ valueOf lo ∷ valueOf hi ∷ []) ≡ answerOf call (State s n lo hi)
+  unfolding answerOf handedOf columnsOf
+  of-state s n lo hi = rw no-refusal
 
   pub of-halved : 48 ∷ newline ∷ [] ≡ answerOf call Halved
   unfolding answerOf handedOf columnsOf lineOf
@@ -47,10 +48,11 @@ module _ (call : Call) where
   unfolding callLine
   of-call number a = simp append-assoc
 
-pub of-columns : (a : Single)
+pub of-columns : (a : Single) (n : ℕ) (lo hi : Float)
     → (48 ∷ blank ∷ []) ++ numberColumn (regionOf (a .equation)) blank ++ numberColumn (bit (a .verified)) blank ++ floatColumn (a .p) blank ++ floatColumn (a .t) blank
     ++ floatColumn (a .state .v) blank ++ floatColumn (a .state .u) blank ++ floatColumn (a .state .h) blank ++ floatColumn (a .state .s) blank
-    ++ floatColumn (a .state .cp) blank ++ floatColumn (a .state .w) newline
-    ≡ 48 ∷ lineOf (stateColumns a)
+    ++ floatColumn (a .state .cp) blank ++ floatColumn (a .state .w) blank
+    ++ (numberColumn n blank ++ floatColumn lo blank ++ floatColumn hi newline)
+    ≡ 48 ∷ lineOf (stateColumns a ++ decimalOf n ∷ valueOf lo ∷ valueOf hi ∷ [])
 unfolding lineOf stateColumns columnOf
-of-columns a = simp append-assoc
+of-columns a n lo hi = simp append-assoc

@@ -35,11 +35,11 @@ columnsOf (whole n ∷ rest) = decimalOf n ∷ columnsOf rest
 columnsOf (kelvin x ∷ rest) = valueOf x ∷ columnsOf rest
 columnsOf (state s ∷ rest) = stateColumns (s .single) ++ columnsOf rest
 
--- how many columns a call hands out: a ticket; halvings, lo and hi; region, mark and eight values; nothing
+-- how many columns a call hands out: a ticket; halvings, lo and hi; region, mark, eight values, number, lo and hi; nothing
 unfoldable pub widthOf : Call → ℕ
-widthOf (Post caller kind p y) = 1
+widthOf (Post caller kind p y number) = 1
 widthOf (Peek caller ticket) = 3
-widthOf (Collect caller ticket) = 10
+widthOf (Collect caller ticket) = 13
 widthOf (Withdraw caller ticket) = 0
 
 -- the values handed out; where the call is refused, `-` for each column of what it would have been
@@ -55,7 +55,7 @@ lineOf (column ∷ rest) = blank ∷ column ++ lineOf rest
 
 -- `post`, `peek`, `collect`, `withdraw`
 unfoldable pub nameOf : Call → List ℕ
-nameOf (Post caller kind p y) = 112 ∷ 111 ∷ 115 ∷ 116 ∷ []
+nameOf (Post caller kind p y number) = 112 ∷ 111 ∷ 115 ∷ 116 ∷ []
 nameOf (Peek caller ticket) = 112 ∷ 101 ∷ 101 ∷ 107 ∷ []
 nameOf (Collect caller ticket) = 99 ∷ 111 ∷ 108 ∷ 108 ∷ 101 ∷ 99 ∷ 116 ∷ []
 nameOf (Withdraw caller ticket) = 119 ∷ 105 ∷ 116 ∷ 104 ∷ 100 ∷ 114 ∷ 97 ∷ 119 ∷ []

@@ -8,7 +8,7 @@ ghost use mathlib.Core.Path.{_≡_};
 ghost use mathlib.Core.List.{[], _∷_, _++_};
 ghost use lib.ListN.{replicate};
 ghost use Rattle.text.specs.Room.{Written};
-ghost use Rattle.text.specs.Texts.{decimalOf, blank, newline, numberColumn, floatColumn};
+ghost use Rattle.text.specs.Texts.{decimalOf, valueOf, blank, newline, numberColumn, floatColumn};
 ghost use Rattle.ledger.specs.Search.{bit};
 ghost use Rattle.call_lines.specs.Lines.{stateColumns, widthOf, lineOf, nameOf, answerOf, callLine};
 
@@ -37,6 +37,7 @@ fn named(number: u64, call: Call, out: &mut [u8]) -> usize
             kind: _,
             p: _,
             y: _,
+            number: _,
         } => numbered(number, b"post ", out, 0),
         Call::Peek {
             caller: _,
@@ -63,6 +64,7 @@ fn refused(call: Call, n: u64, out: &mut [u8], at: usize) -> usize
             kind: _,
             p: _,
             y: _,
+            number: _,
         } => numbered(n, b"-\n", out, at),
         Call::Peek {
             caller: _,
@@ -71,7 +73,7 @@ fn refused(call: Call, n: u64, out: &mut [u8], at: usize) -> usize
         Call::Collect {
             caller: _,
             ticket: _,
-        } => numbered(n, b"- - - - - - - - - -\n", out, at),
+        } => numbered(n, b"- - - - - - - - - - - - -\n", out, at),
         Call::Withdraw {
             caller: _,
             ticket: _,
@@ -87,19 +89,27 @@ fn ticket(t: u64, out: &mut [u8], at: usize) -> usize
     text::decimal(t, b'\n', out, at)
 }
 
-// Writes that nothing is refused, the halvings done, and the bracket that they left.
+// Writes a number of halvings and the bracket that they left, which end a line.
 fn bracket(halvings: u64, lo: f64, hi: f64, out: &mut [u8], at: usize) -> usize
-    ensures { λ r. ⌜ Written (now (out .entry)) at ((48 ∷ blank ∷ []) ++ numberColumn halvings blank ++ floatColumn lo blank ++ floatColumn hi newline) (now (out .exit)) r ⌝ }
+    ensures { λ r. ⌜ Written (now (out .entry)) at (numberColumn halvings blank ++ floatColumn lo blank ++ floatColumn hi newline) (now (out .exit)) r ⌝ }
 {
-    let at = text::bytes(b"0 ", out, at);
     let at = text::decimal(halvings, b' ', out, at);
     let at = text::column(Cell::Value(lo), b' ', out, at);
     text::column(Cell::Value(hi), b'\n', out, at)
 }
 
-// Writes that nothing is refused, and region, mark and values of a state.
-fn collected(s: Single, out: &mut [u8], at: usize) -> usize
-    ensures { λ r. ⌜ Written (now (out .entry)) at (48 ∷ lineOf (stateColumns s)) (now (out .exit)) r ⌝ }
+// Writes that nothing is refused, the halvings done, and the bracket that they left.
+fn peeked(halvings: u64, lo: f64, hi: f64, out: &mut [u8], at: usize) -> usize
+    ensures { λ r. ⌜ Written (now (out .entry)) at ((48 ∷ blank ∷ []) ++ numberColumn halvings blank ++ floatColumn lo blank ++ floatColumn hi newline) (now (out .exit)) r ⌝ }
+{
+    let at = text::bytes(b"0 ", out, at);
+    bracket(halvings, lo, hi, out, at)
+}
+
+// Writes that nothing is refused, region, mark and values of a state, the halvings posted for, and the
+// bracket that they left.
+fn collected(s: Single, number: u64, lo: f64, hi: f64, out: &mut [u8], at: usize) -> usize
+    ensures { λ r. ⌜ Written (now (out .entry)) at (48 ∷ lineOf (stateColumns s ++ decimalOf number ∷ valueOf lo ∷ valueOf hi ∷ [])) (now (out .exit)) r ⌝ }
 {
     let q = s.state;
     let equation = s.equation;
@@ -113,7 +123,8 @@ fn collected(s: Single, out: &mut [u8], at: usize) -> usize
     let at = text::column(Cell::Value(q.h), b' ', out, at);
     let at = text::column(Cell::Value(q.s), b' ', out, at);
     let at = text::column(Cell::Value(q.cp), b' ', out, at);
-    text::column(Cell::Value(q.w), b'\n', out, at)
+    let at = text::column(Cell::Value(q.w), b' ', out, at);
+    bracket(number, lo, hi, out, at)
 }
 
 // Writes the refusal or 0, and what a call handed out.
@@ -123,10 +134,15 @@ fn answered(call: Call, answer: Answer, out: &mut [u8], at: usize) -> usize
     match answer {
         Answer::Refused(n) => refused(call, n, out, at),
         Answer::Ticket(t) => ticket(t, out, at),
-        Answer::Shown { halvings, lo, hi } => bracket(halvings, lo, hi, out, at),
-        Answer::State(s) => {
-            let single = s.single;
-            collected(single, out, at)
+        Answer::Shown { halvings, lo, hi } => peeked(halvings, lo, hi, out, at),
+        Answer::State {
+            settled,
+            number,
+            lo,
+            hi,
+        } => {
+            let single = settled.single;
+            collected(single, number, lo, hi, out, at)
         }
         Answer::Halved | Answer::Idle | Answer::Freed => text::bytes(b"0\n", out, at),
     }

@@ -14,7 +14,7 @@ use Rattle.ledger.specs.declared.Row.{Row}
 use Rattle.ledger.specs.declared.Desk.{Desk}
 use Rattle.runs.specs.declared.Answer.the-variants as Answer
 use Rattle.runs.specs.declared.Open.the-variants.{At}
-use Rattle.ledger.specs.Rows.{due, row, unfinished, sound, put}
+use Rattle.ledger.specs.Rows.{row, unfinished, sound, put}
 use Rattle.runs.specs.Model.{answers, refuse, queryOf, bracketOf, settle, halvedRow, next, past, turnOf, openOf, emptied, collectOf, collectAt}
 use Rattle.ledger.proofs.Tests.{unfinished-is}
 use Rattle.ledger.proofs.Changes.{onward-true}
@@ -32,7 +32,7 @@ module _ (d : Desk) (vs : List Val) (own : Is (owned DeskT.the-type) d vs) (i : 
   turn-halves s e l q h = rw (e, lt-ltb (next d) 32 l, q, row-is d vs own i r (omega arith), h)
 
   -- the row that a turn takes has halvings to go
-  pub turn-goes-on : next d < 32 → (d .pointer + next d) % 32 ≡ i → here .halvings < due
+  pub turn-goes-on : next d < 32 → (d .pointer + next d) % 32 ≡ i → here .halvings < here .number
   turn-goes-on l q =
       let u = unfinished-is (row d i) (rw q at (onward-true unfinished d (d .pointer) l)) .1 in
       rw (row-is d vs own i r (omega arith)) at u
@@ -41,10 +41,11 @@ module _ (d : Desk) (vs : List Val) (own : Is (owned DeskT.the-type) d vs) (i : 
     same : row d i ≡ here
     same = row-is d vs own i r (open-seat d c t i o .place)
 
-    pub collect-early : here .halvings < due → refuse 12 d ≡ collectOf d c t
+    pub collect-early : here .halvings < here .number → refuse 12 d ≡ collectOf d c t
     unfolding collectOf collectAt
-    collect-early h = rw (o, same, lt-ltb (here .halvings) due h)
+    collect-early h = rw (o, same, lt-ltb (here .halvings) (here .number) h)
 
-    pub collect-hands : due ≤ here .halvings → answers (Answer.State (settle (queryOf here) (bracketOf here))) (emptied d i) ≡ collectOf d c t
+    pub collect-hands : here .number ≤ here .halvings
+        → answers (Answer.State (settle (queryOf here) (bracketOf here)) (here .number) (here .lo) (here .hi)) (emptied d i) ≡ collectOf d c t
     unfolding collectOf collectAt
-    collect-hands h = rw (o, same, le-ltb (here .halvings) due h)
+    collect-hands h = rw (o, same, le-ltb (here .halvings) (here .number) h)

@@ -1,17 +1,16 @@
 // The calls of the desk. Each tests the desk first; a refused call gives it back as it came.
 ghost use mathlib.Core.Path.{_≡_};
 ghost use Prim.Native.Nat.{_<_};
-ghost use mathlib.Core.Bool.{true, _&&_};
-ghost use lib.Dec.{ltb};
-ghost use Rattle.ledger.specs.Rows.{due, between, sound};
-ghost use Rattle.runs.specs.Model.{newDesk, refuse, admitted, postOf, halvedRow, turnOf, openOf, peekOf, emptied, collectOf, withdrawOf};
+ghost use mathlib.Core.Bool.{true};
+ghost use Rattle.ledger.specs.Rows.{sound};
+ghost use Rattle.runs.specs.Model.{newDesk, refuse, admitted, known, postOf, halvedRow, turnOf, openOf, peekOf, emptied, collectOf, withdrawOf};
 use ledger::Desk;
-use ledger::HALVINGS;
 use ledger::Row;
 use ledger::TICKETS;
 use ledger::Want;
 use ledger::blank_row;
 use ledger::count_open;
+use ledger::is_nameable;
 use ledger::is_sound;
 use ledger::places_on;
 use runs::Answer;
@@ -65,9 +64,9 @@ fn admit(mut d: Desk, r: Row) -> Outcome
     }
 }
 
-// Whether a caller and a kind are ones that a post may name.
-fn known(caller: u64, kind: u64) -> bool
-    ensures { λ b. ⌜ b ≡ (ltb caller 8 && between 2 3 kind) ⌝ }
+// Whether a caller, a kind and a number of halvings are ones that a post may name.
+fn known(caller: u64, kind: u64, number: u64) -> bool
+    ensures { λ b. ⌜ b ≡ known caller kind number ⌝ }
 {
     if 7 < caller {
         return false;
@@ -75,18 +74,22 @@ fn known(caller: u64, kind: u64) -> bool
     if kind < 2 {
         return false;
     }
-    kind <= 3
+    if 3 < kind {
+        return false;
+    }
+    is_nameable(number)
 }
 
-// Posts the query of kind 2, h = y in kJ/kg at p in MPa, or of kind 3, s = y in kJ/(kg K) at p: a
-// ticket, the caller's own count. Refused with 15, 9, the number that judging the query gives, 13, 10.
-pub fn post(d: Desk, caller: u64, kind: u64, p: f64, y: f64) -> Outcome
-    ensures { λ r. ⌜ r ≡ postOf d caller kind p y ⌝ }
+// Posts the query of kind 2, h = y in kJ/kg at p in MPa, or of kind 3, s = y in kJ/(kg K) at p, for a
+// number of halvings from 10 to 50: a ticket, the caller's own count. Refused with 15, 9, the number that
+// judging the query gives, 13, 10.
+pub fn post(d: Desk, caller: u64, kind: u64, p: f64, y: f64, number: u64) -> Outcome
+    ensures { λ r. ⌜ r ≡ postOf d caller kind p y number ⌝ }
 {
     if !is_sound(d) {
         return refused(d, 15);
     }
-    if !known(caller, kind) {
+    if !known(caller, kind, number) {
         return refused(d, 9);
     }
     let j = settle::judge(kind, p, y);
@@ -102,6 +105,7 @@ pub fn post(d: Desk, caller: u64, kind: u64, p: f64, y: f64) -> Outcome
                 region: settle::region(phase),
                 p: p,
                 y: y,
+                number: number,
                 halvings: 0,
                 lo: lo,
                 hi: hi,
@@ -113,7 +117,7 @@ pub fn post(d: Desk, caller: u64, kind: u64, p: f64, y: f64) -> Outcome
 
 // The row after one halving of its own bracket.
 fn halved(r: Row) -> Row
-    requires { ⌜ r .halvings < due ⌝ }
+    requires { ⌜ r .halvings < r .number ⌝ }
     ensures { λ s. ⌜ s ≡ halvedRow r ⌝ }
 {
     let b = settle::halve(r.kind, settle::phase(r.region), r.p, r.y, r.lo, r.hi);
@@ -199,7 +203,8 @@ fn freed(mut d: Desk, i: usize) -> Desk
     d
 }
 
-// Hands out the state of a ticket that is ready and frees its row. Refused with 15, 9, 11, 12.
+// Hands out the state of a ticket that is ready, the number of halvings that it was posted for and the
+// bracket in K that they left, and frees its row. Refused with 15, 9, 11, 12.
 pub fn collect(d: Desk, caller: u64, ticket: u64) -> Outcome
     ensures { λ r. ⌜ r ≡ collectOf d caller ticket ⌝ }
 {
@@ -208,13 +213,18 @@ pub fn collect(d: Desk, caller: u64, ticket: u64) -> Outcome
         Open::Closed(n) => refused(d, n),
         Open::At(i) => {
             let r = d.rows[i];
-            if r.halvings < HALVINGS {
+            if r.halvings < r.number {
                 return refused(d, 12);
             }
             let s = settle::settled_at(r.kind, settle::phase(r.region), r.p, r.y, r.lo, r.hi);
             let e = freed(d, i);
             Outcome {
-                answer: Answer::State(s),
+                answer: Answer::State {
+                    settled: s,
+                    number: r.number,
+                    lo: r.lo,
+                    hi: r.hi,
+                },
                 desk: e,
             }
         }

@@ -30,10 +30,10 @@ or-nothing : (t : Bool) (l : List ℕ) (n : ℕ) → length l ≤ n → length (
 or-nothing true l n h = h
 or-nothing false l n h = omega arith
 
-row-short : (i : ℕ) (r : Row) → length (rowLine i r) ≤ 198
+row-short : (i : ℕ) (r : Row) → length (rowLine i r) ≤ 219
 unfolding rowLine
 row-short i r =
-    or-nothing (r .filled) _ 198
+    or-nothing (r .filled) _ 219
     (simp length-append
     (omega (
       arith,
@@ -44,6 +44,7 @@ row-short i r =
       digits (r .region),
       column-short (Value (r .p)),
       column-short (Value (r .y)),
+      digits (r .number),
       digits (r .halvings),
       column-short (Value (r .lo)),
       column-short (Value (r .hi)),
@@ -52,4 +53,4 @@ row-short i r =
 pub shown-short : (number : ℕ) (d : Desk) → length (shownLines number d) ≤ 8192
 unfolding shownLines
 shown-short number d =
-    simp length-append (omega (arith, desk-short number d, joined-short (λ i. rowLine i (row d i)) 198 32 (λ i. row-short i (row d i))))
+    simp length-append (omega (arith, desk-short number d, joined-short (λ i. rowLine i (row d i)) 219 32 (λ i. row-short i (row d i))))

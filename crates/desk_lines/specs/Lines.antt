@@ -19,7 +19,7 @@ deskLine number d =
     ++ (99 ∷ 111 ∷ 117 ∷ 110 ∷ 116 ∷ 115 ∷ blank ∷ [])
     ++ countColumns d
 
--- `row I CALLER TICKET KIND REGION P Y HALVINGS LO HI`, and nothing for an empty row
+-- `row I CALLER TICKET KIND REGION P Y NUMBER HALVINGS LO HI`, and nothing for an empty row
 unfoldable pub rowLine : ℕ → Row → List ℕ
 rowLine i r =
     cond (r .filled)
@@ -31,6 +31,7 @@ rowLine i r =
     ++ numberColumn (r .region) blank
     ++ floatColumn (r .p) blank
     ++ floatColumn (r .y) blank
+    ++ numberColumn (r .number) blank
     ++ numberColumn (r .halvings) blank
     ++ floatColumn (r .lo) blank
     ++ floatColumn (r .hi) newline)

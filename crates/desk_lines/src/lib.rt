@@ -44,6 +44,7 @@ fn row_line(i: u64, r: Row, out: &mut [u8], at: usize) -> usize
     let at = text::decimal(r.region, b' ', out, at);
     let at = text::column(Cell::Value(r.p), b' ', out, at);
     let at = text::column(Cell::Value(r.y), b' ', out, at);
+    let at = text::decimal(r.number, b' ', out, at);
     let at = text::decimal(r.halvings, b' ', out, at);
     let at = text::column(Cell::Value(r.lo), b' ', out, at);
     text::column(Cell::Value(r.hi), b'\n', out, at)

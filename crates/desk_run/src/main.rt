@@ -1,7 +1,7 @@
 // A run of the desk through the points of the rules that are for running only: a fifth open post is
-// refused with 10, a second collect of a ticket with 11, p = 0.0006 with any finite h with 2. A line for
-// each call: its name, its refusal number (0 where there is none) and what it handed out (a ticket, the
-// halvings done, a region).
+// refused with 10, a second collect of a ticket with 11, p = 0.0006 with any finite h with 2, a post for 9
+// halvings or for 51 with 9. A line for each call: its name, its refusal number (0 where there is none)
+// and what it handed out (a ticket, the halvings done, a region).
 use desk::Answer;
 use desk::Desk;
 use libc::STDOUT_FILENO;
@@ -28,8 +28,13 @@ fn say(call: &[u8], answer: Answer) {
             lo: _,
             hi: _,
         } => line(call, 0, halvings),
-        Answer::State(s) => {
-            let single = s.single;
+        Answer::State {
+            settled,
+            number: _,
+            lo: _,
+            hi: _,
+        } => {
+            let single = settled.single;
             let equation = single.equation;
             line(call, 0, equations::region_of(equation))
         }
@@ -37,15 +42,21 @@ fn say(call: &[u8], answer: Answer) {
     }
 }
 
-// A post of kind 2, (p,h), or 3, (p,s), at p in MPa.
-fn post_at(d: Desk, caller: u64, kind: u64, p: f64, y: f64) -> Desk {
-    let o = desk::post(d, caller, kind, p, y);
+// A post of kind 2, (p,h), or 3, (p,s), at p in MPa, for a number of halvings.
+fn post_for(d: Desk, caller: u64, kind: u64, p: f64, y: f64, number: u64) -> Desk {
+    let o = desk::post(d, caller, kind, p, y, number);
     let a = o.answer;
     say(b"post", a);
     let e = o.desk;
     e
 }
 
+// The same for 40 halvings.
+fn post_at(d: Desk, caller: u64, kind: u64, p: f64, y: f64) -> Desk {
+    post_for(d, caller, kind, p, y, 40)
+}
+
+// The same at 1 MPa.
 fn post(d: Desk, caller: u64, kind: u64, y: f64) -> Desk {
     post_at(d, caller, kind, 1.0, y)
 }
@@ -92,6 +103,8 @@ fn main() {
     let d = post(d, 1, 2, 500.0);
     let d = post(d, 8, 2, 500.0);
     let d = post(d, 1, 4, 1.5);
+    let d = post_for(d, 1, 2, 1.0, 500.0, 9);
+    let d = post_for(d, 1, 2, 1.0, 500.0, 51);
     let d = post_at(d, 1, 2, 0.0006, 500.0);
     let d = post_at(d, 1, 2, 0.0006, -7.0e300);
     let d = turn_after(d, 198);

@@ -58,6 +58,10 @@ module _ (d : Desk) where
 
   -- ---- and the true test makes the facts
 
+  pub counts-few : countsRight (d .counts) ≡ true → (c : ℕ) → c < 8 → counted d c ≤ most
+  unfolding countsRight
+  counts-few e c l = leb-true _ _ (upto-each (λ c. leb (counted d c) most) 8 e c l)
+
   -- no row is of a caller that is none of the eight, so what holds of the eight holds of all
   pub all-four : ((i : ℕ) → i < 32 → row d i .filled ≡ true → Right (d .counts) (row d i)) → ((c : ℕ) → c < 8 → tally (ofCaller c) d ≤ 4)
       → (c : ℕ) → tally (ofCaller c) d ≤ 4
@@ -109,7 +113,7 @@ module _ (d : Desk) where
     rows-good = record { each = right; once = once; four = four }
 
   pub sound-good : length (d .rows) ≡ 32 → length (d .counts) ≡ 8 → sound d ≡ true → Good d
-  unfolding sound countsRight
+  unfolding sound
   sound-good l w e =
       let p = and-true (leb (d .pointer) 31) (countsRight (d .counts) && rowsRight d) e in
       let c = and-true (countsRight (d .counts)) (rowsRight d) (p .1) in
@@ -117,7 +121,7 @@ module _ (d : Desk) where
         long = l;
         wide = w;
         points = omega (arith, leb-true (d .pointer) 31 (p .0));
-        few = λ k m. leb-true _ _ (upto-each (λ c. leb (counted d c) most) 8 (c .0) k m);
+        few = counts-few (c .0);
         rows = rows-good (c .1);
       }
 

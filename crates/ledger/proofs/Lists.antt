@@ -29,8 +29,8 @@ any [] i a b h = absurd (omega arith)
 any (x ∷ xs) zero a b h = refl
 any (x ∷ xs) (suc i) a b h = any xs i a b (omega arith)
 
--- the bytes before a row, 80 to each, and before a count, 8 to each
-pub row-fits : (i : ℕ) → i < 32 → Fits w64 (i * 80)
+-- the bytes before a row, 88 to each, and before a count, 8 to each
+pub row-fits : (i : ℕ) → i < 32 → Fits w64 (i * 88)
 row-fits i h = omega arith
 
 pub count-fits : (c : ℕ) → c < 8 → Fits w64 (c * 8)

@@ -14,13 +14,17 @@ use Rattle.ledger.specs.Search.{least, count, upto}
 
 -- ---- numbers that the rules fix
 
--- how many halvings make a job ready
-abbrev pub due : ℕ
-due = 40
-
 -- how many tickets a caller may be given
 abbrev pub most : ℕ
 most = 1000000
+
+-- from a to b, ends included
+abbrev pub between : ℕ → ℕ → ℕ → Bool
+between a b n = leb a n && leb n b
+
+-- a number of halvings that a post may name
+unfoldable pub nameable : ℕ → Bool
+nameable n = between 10 50 n
 
 -- ---- rows
 
@@ -38,6 +42,7 @@ blank =
       region = 0;
       p = nought;
       y = nought;
+      number = 0;
       halvings = 0;
       lo = nought;
       hi = nought;
@@ -61,7 +66,7 @@ unfoldable pub vacant : Row → Bool
 vacant r = not (r .filled)
 
 unfoldable pub unfinished : Row → Bool
-unfinished r = r .filled && ltb (r .halvings) due
+unfinished r = r .filled && ltb (r .halvings) (r .number)
 
 abbrev pub wants : Want → Row → Bool
 wants Vacant r = vacant r
@@ -86,13 +91,12 @@ put d i r counts pointer = record { rows = set (d .rows) i r; counts = counts; p
 
 -- ---- a sound desk
 
-abbrev pub between : ℕ → ℕ → ℕ → Bool
-between a b n = leb a n && leb n b
-
--- a caller 0 to 7, a ticket below that caller's count, a region 1 or 2, a kind 2 or 3, at most 40 halvings
+-- a caller 0 to 7, a ticket below that caller's count, a region 1 or 2, a kind 2 or 3, a number of halvings 10 to 50, and at most that many done
 unfoldable pub rowRight : List ℕ → Row → Bool
 rowRight counts r =
-    ltb (r .caller) 8 && (ltb (r .ticket) (getD counts (r .caller) 0) && (between 1 2 (r .region) && (between 2 3 (r .kind) && leb (r .halvings) due)))
+    ltb (r .caller) 8
+    && (ltb (r .ticket) (getD counts (r .caller) 0)
+    && (between 1 2 (r .region) && (between 2 3 (r .kind) && (nameable (r .number) && leb (r .halvings) (r .number)))))
 
 -- ticket counts at most 1,000,000
 unfoldable pub countsRight : List ℕ → Bool

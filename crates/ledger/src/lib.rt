@@ -4,16 +4,16 @@
 mod look;
 mod sound;
 
-pub use look::HALVINGS;
 pub use look::blank_row;
 pub use look::count_open;
 pub use look::places_on;
 pub use sound::TICKETS;
+pub use sound::is_nameable;
 pub use sound::is_sound;
 
 // A row. Filled, it holds a caller's ticket, the query of kind 2 (p,h) or 3 (p,s) at p in MPa and y in
-// kJ/kg or kJ/(kg K), the region fixed at the post, the halvings done and the bracket lo to hi in K
-// that they left.
+// kJ/kg or kJ/(kg K), the region fixed at the post, the number of halvings that the post named, how many
+// of them are done and the bracket lo to hi in K that they left.
 pub struct Row {
     pub filled: bool,
     pub caller: u64,
@@ -22,6 +22,7 @@ pub struct Row {
     pub region: u64,
     pub p: f64,
     pub y: f64,
+    pub number: u64,
     pub halvings: u64,
     pub lo: f64,
     pub hi: f64,

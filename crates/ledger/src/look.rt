@@ -5,9 +5,6 @@ use super::Desk;
 use super::Row;
 use super::Want;
 
-// How many halvings make a job ready.
-pub const HALVINGS: u64 = 40;
-
 // A row as in a new desk.
 pub fn blank_row() -> Row
     ensures { λ r. ⌜ r ≡ blank ⌝ }
@@ -20,6 +17,7 @@ pub fn blank_row() -> Row
         region: 0,
         p: 0.0,
         y: 0.0,
+        number: 0,
         halvings: 0,
         lo: 0.0,
         hi: 0.0,
@@ -34,7 +32,7 @@ fn meets(w: Want, r: Row) -> bool
         Want::Vacant => !r.filled,
         Want::Unfinished => {
             if r.filled {
-                return r.halvings < HALVINGS;
+                return r.halvings < r.number;
             }
             false
         }

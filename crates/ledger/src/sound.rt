@@ -1,15 +1,25 @@
-// Whether a desk is sound, in one pass over its rows: each is compared only with those of its caller
-// that were passed before it.
+// Whether a desk is sound, in one pass over its rows: each is compared only with what is noted of its own
+// caller.
 ghost use mathlib.Core.Path.{_≡_};
-ghost use Prim.Native.Nat.{_+_, _≤_};
-ghost use Rattle.ledger.specs.Rows.{rowRight, countsRight, rowsRight, sound};
+ghost use Prim.Native.Nat.{_<_};
+ghost use mathlib.Core.Bool.{true};
+ghost use Rattle.ledger.specs.Rows.{nameable, rowRight, countsRight, rowsRight, sound};
 ghost use Rattle.ledger.specs.Noted.{among};
 use super::Desk;
 use super::Row;
-use super::look::HALVINGS;
 
 // How many tickets a caller may be given.
 pub const TICKETS: u64 = 1000000;
+
+// Whether a post may name this number of halvings.
+pub fn is_nameable(number: u64) -> bool
+    ensures { λ b. ⌜ b ≡ nameable number ⌝ }
+{
+    if number < 10 {
+        return false;
+    }
+    number <= 50
+}
 
 // A filled row by itself.
 fn row_right(r: Row, counts: &[u64; 8]) -> bool
@@ -34,7 +44,10 @@ fn row_right(r: Row, counts: &[u64; 8]) -> bool
     if 3 < r.kind {
         return false;
     }
-    r.halvings <= HALVINGS
+    if !is_nameable(r.number) {
+        return false;
+    }
+    r.halvings <= r.number
 }
 
 // Whether each count is one that can have been given.
@@ -51,14 +64,14 @@ fn counts_right(counts: &[u64; 8]) -> bool
     true
 }
 
-// Whether one of the n tickets noted from a place on is t.
-fn noted(tickets: &[u64; 32], from: usize, n: usize, t: u64) -> bool
-    requires { ⌜ from + n ≤ 32 ⌝ }
-    ensures { λ b. ⌜ b ≡ among t (now (tickets .entry)) from n ⌝ }
+// Whether one of a caller's first three places holds t.
+fn noted(tickets: &[u64; 32], caller: usize, t: u64) -> bool
+    requires { ⌜ caller < 8 ⌝ }
+    ensures { λ b. ⌜ b ≡ among t (now (tickets .entry)) caller ⌝ }
 {
     let mut k = 0usize;
-    while k < n {
-        if tickets[from + k] == t {
+    while k < 3 {
+        if tickets[caller + 8 * k] == t {
             return true;
         }
         k += 1;
@@ -67,13 +80,16 @@ fn noted(tickets: &[u64; 32], from: usize, n: usize, t: u64) -> bool
 }
 
 // The filled rows, by themselves and beside each other. The tickets of caller c that were passed are
-// noted at 4 · c and after, and seen[c] is how many they are.
+// noted at c, c + 8, c + 16 and c + 24, and next[c] is the place for one more. A place that is free holds
+// the number of tickets that may be given, which no ticket is: so a caller's first three places can be
+// compared however many are taken; the fourth need not be, since no row may come behind it.
 fn rows_right(d: Desk) -> bool
+    requires { ⌜ countsRight (d .counts) ≡ true ⌝ }
     ensures { λ b. ⌜ b ≡ rowsRight d ⌝ }
 {
     let counts = d.counts;
-    let mut tickets = [0u64; 32];
-    let mut seen = [0usize; 8];
+    let mut tickets = [TICKETS; 32];
+    let mut next = [0usize, 1, 2, 3, 4, 5, 6, 7];
     let mut i = 0usize;
     while i < 32 {
         let r = d.rows[i];
@@ -83,15 +99,15 @@ fn rows_right(d: Desk) -> bool
                 return false;
             }
             let c = r.caller as usize;
-            let n = seen[c];
-            if 3 < n {
+            let place = next[c];
+            if 31 < place {
                 return false;
             }
-            if noted(&tickets, 4 * c, n, r.ticket) {
+            if noted(&tickets, c, r.ticket) {
                 return false;
             }
-            tickets[4 * c + n] = r.ticket;
-            seen[c] = n + 1;
+            tickets[place] = r.ticket;
+            next[c] = place + 8;
         }
     }
     true

@@ -150,13 +150,13 @@ fn run_beyond(operation: u8, n: usize) -> f64 {
     sum
 }
 
-// So many jobs in region 1, one of each caller in turn.
+// So many jobs in region 1 for 40 halvings, one of each caller in turn.
 fn desk_of(jobs: u64) -> Desk {
     let mut d = desk::new_desk();
     let mut y = 100.0;
     let mut k = 0u64;
     while k < jobs {
-        let o = desk::post(d, k % 8, 2, 1.0, y);
+        let o = desk::post(d, k % 8, 2, 1.0, y, 40);
         let e = o.desk;
         d = e;
         y = y + 10.0;
@@ -240,7 +240,14 @@ fn five_posts(first: Desk, start: f64) -> f64 {
     let mut x = start;
     let mut j = 0usize;
     while j < 5 {
-        let o = desk::post(d, 3 + (j % 5) as u64, 2, x, 100.0 + 10.0 * x);
+        let o = desk::post(
+            d,
+            3 + (j % 5) as u64,
+            2,
+            x,
+            100.0 + 10.0 * x,
+            10 + (j % 5) as u64,
+        );
         let e = o.desk;
         d = e;
         x = x * 1.05;
@@ -269,7 +276,7 @@ fn ready_desk() -> Desk {
     let mut i = 0usize;
     while i < 32 {
         let mut r = d.rows[i];
-        r.halvings = 40;
+        r.halvings = r.number;
         d.rows[i] = r;
         i += 1;
     }
@@ -279,8 +286,13 @@ fn ready_desk() -> Desk {
 // The state that a collect hands out.
 fn handed_out(a: Answered) -> f64 {
     match a {
-        Answered::State(s) => {
-            let state = s.single.state;
+        Answered::State {
+            settled,
+            number: _,
+            lo: _,
+            hi: _,
+        } => {
+            let state = settled.single.state;
             sum_of(state)
         }
         _ => REFUSED,

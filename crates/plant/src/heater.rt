@@ -10,6 +10,9 @@ use crate::model::Known;
 use crate::model::Output;
 pub(crate) use places::Place;
 
+// How many halvings settle a state that the heater asks for: rough ones will do, and come soon.
+pub(crate) const HALVINGS: u64 = 10;
+
 // How much feedwater flows through the heater, in kg/s.
 const WATER_FLOW: f64 = 50.0;
 

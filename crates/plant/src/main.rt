@@ -1,6 +1,7 @@
-// The demonstration. Two models that know nothing of each other, `turbine` and `heater`, sit at one desk,
-// and the program prints what each was told. Then it runs the turbine again, with the heater gone and the
-// turns dealt otherwise, and says whether the turbine's lines, and every bit of its states, are the same.
+// The demonstration. Two models that know nothing of each other, `turbine`, which wants fine states, and
+// `heater`, which wants rough ones soon, sit at one desk, and the program prints what each was told. Then
+// it runs the turbine again, with the heater gone and the turns dealt otherwise, and says whether the
+// turbine's lines, and every bit of its states, are the same.
 // Only this file has the desk in hand: a model is asked for its query and told its state (`seats`).
 mod heater;
 mod model;
@@ -18,10 +19,12 @@ use libc::STDOUT_FILENO;
 // How many rounds settle the turbine, one for each of its queries. The heater is settled in the first.
 const ROUNDS: u64 = 6;
 
-// How many turns the host deals in a round before the posts, and between them and the collects.
+// How many turns the host deals in a round before the posts, from these to the collects of rough states,
+// and from there to those of fine ones.
 struct Pace {
     before: u64,
-    after: u64,
+    rough: u64,
+    fine: u64,
 }
 
 // The desk and who sits at it.
@@ -33,7 +36,13 @@ struct Plant {
 // Makes a call on the desk. `Idle` stands for the answer where there is none to make.
 fn made(desk: Desk, call: Call) -> Outcome {
     match call {
-        Call::Post { caller, kind, p, y } => desk::post(desk, caller, kind, p, y),
+        Call::Post {
+            caller,
+            kind,
+            p,
+            y,
+            number,
+        } => desk::post(desk, caller, kind, p, y, number),
         Call::Collect { caller, ticket } => desk::collect(desk, caller, ticket),
         Call::Nothing => Outcome {
             answer: Answer::Idle,
@@ -67,12 +76,34 @@ fn calls(plant: Plant, step: Step, room: &mut [u8], lines: &mut [u8]) -> Plant {
     Plant { desk: d, seats }
 }
 
+// The same once n turns are dealt.
+fn calls_after(plant: Plant, n: u64, step: Step, room: &mut [u8], lines: &mut [u8]) -> Plant {
+    let later = turns(plant, n);
+    calls(later, step, room, lines)
+}
+
+// The collects of a round, rough states before fine ones.
+fn collects(plant: Plant, pace: Pace, room: &mut [u8], lines: &mut [u8]) -> Plant {
+    let soon = calls_after(
+        plant,
+        pace.rough,
+        Step::Collect(heater::HALVINGS),
+        room,
+        lines,
+    );
+    calls_after(
+        soon,
+        pace.fine,
+        Step::Collect(turbine::HALVINGS),
+        room,
+        lines,
+    )
+}
+
 // A round: whoever asks posts, and once the turns are dealt collects.
 fn round(plant: Plant, pace: Pace, room: &mut [u8], lines: &mut [u8]) -> Plant {
-    let early = turns(plant, pace.before);
-    let posted = calls(early, Step::Post, room, lines);
-    let later = turns(posted, pace.after);
-    calls(later, Step::Collect, room, lines)
+    let posted = calls_after(plant, pace.before, Step::Post, room, lines);
+    collects(posted, pace, room, lines)
 }
 
 // Prints what stands in a room from one place up to another.
@@ -84,14 +115,14 @@ fn show(room: &[u8], from: usize, to: usize) {
     }
 }
 
-// Prints what the models wrote since, the turbine's lines and then the heater's.
+// Prints what the models wrote since, the heater's lines, which come sooner, and then the turbine's.
 fn show_since(then: Seats, now: Seats, room: &[u8], lines: &[u8]) {
-    let turbine_then = then.turbine;
-    let turbine = now.turbine;
-    show(room, turbine_then.next_line, turbine.next_line);
     let heater_then = then.heater;
     let heater = now.heater;
     show(lines, heater_then.next_line, heater.next_line);
+    let turbine_then = then.turbine;
+    let turbine = now.turbine;
+    show(room, turbine_then.next_line, turbine.next_line);
 }
 
 // Prints what the models wrote at their first states.
@@ -119,11 +150,13 @@ fn run(start: Seats, pace: Pace, room: &mut [u8], lines: &mut [u8]) {
     }
 }
 
-// Run 1: the turbine and the heater at one desk. After 1280 turns a query is settled, whoever else posts.
+// Run 1: the turbine and the heater at one desk. After 32 turns for each halving a query is settled,
+// whoever else posts: a rough state after 320, a fine one after 1600.
 fn beside_the_heater(room: &mut [u8], lines: &mut [u8]) {
     let pace = Pace {
         before: 0,
-        after: 1280,
+        rough: 320,
+        fine: 1280,
     };
     let turbine = turbine::inlet(room);
     let heater = heater::water_in(lines);
@@ -134,7 +167,8 @@ fn beside_the_heater(room: &mut [u8], lines: &mut [u8]) {
 fn alone(room: &mut [u8], lines: &mut [u8]) {
     let pace = Pace {
         before: 7,
-        after: 1300,
+        rough: 320,
+        fine: 1300,
     };
     let turbine = turbine::inlet(room);
     run(seats::seated(turbine, heater::absent()), pace, room, lines);
@@ -160,9 +194,11 @@ fn main() {
     let mut room = [0u8; 3072];
     let mut room_alone = [0u8; 3072];
     let mut lines = [0u8; 1024];
-    say(b"turbine and heater at one desk, 1280 turns between a post and its collect\n");
+    say(
+        b"turbine and heater at one desk: the heater collects its rough states after 320 turns, the turbine its fine ones after 1600\n",
+    );
     beside_the_heater(&mut room, &mut lines);
-    say(b"turbine alone, 7 turns before each post and 1300 between it and its collect\n");
+    say(b"turbine alone: 7 turns before each post, 1620 between it and its collect\n");
     alone(&mut room_alone, &mut lines);
     compare(&room, &room_alone);
 }

@@ -28,10 +28,10 @@ pub(crate) struct Seats {
     pub tickets: [u64; 4],
 }
 
-// The two calls that a query takes.
+// The two calls that a query takes; a collect is for the queries that were posted for so many halvings.
 pub(crate) enum Step {
     Post,
-    Collect,
+    Collect(u64),
 }
 
 // A call on the desk, or that there is none to make.
@@ -41,6 +41,7 @@ pub(crate) enum Call {
         kind: u64,
         p: f64,
         y: f64,
+        number: u64,
     },
     Collect {
         caller: u64,
@@ -73,6 +74,14 @@ fn caller(seat: usize) -> u64 {
     }
 }
 
+// How many halvings settle a state for the model who sits there.
+fn number(seat: usize) -> u64 {
+    match seat {
+        0 => turbine::HALVINGS,
+        _ => heater::HALVINGS,
+    }
+}
+
 // What the heater asks about from a seat of its.
 fn place(seat: usize) -> Place {
     match seat {
@@ -96,20 +105,22 @@ fn asks(seats: Seats, seat: usize) -> Asks {
     }
 }
 
-// The post of what is asked.
-fn post(caller: u64, asks: Asks) -> Call {
+// The post of what is asked, for a number of halvings.
+fn post(caller: u64, asks: Asks, number: u64) -> Call {
     match asks {
         Asks::ByEnthalpy { p, h } => Call::Post {
             caller,
             kind: P_H,
             p,
             y: h,
+            number,
         },
         Asks::ByEntropy { p, s } => Call::Post {
             caller,
             kind: P_S,
             p,
             y: s,
+            number,
         },
         Asks::Nothing => Call::Nothing,
     }
@@ -129,15 +140,25 @@ pub(crate) fn call_for(seats: Seats, seat: usize, step: Step) -> Call
 {
     let asks = asks(seats, seat);
     match step {
-        Step::Post => post(caller(seat), asks),
-        Step::Collect => collect(caller(seat), asks, seats.tickets[seat]),
+        Step::Post => post(caller(seat), asks, number(seat)),
+        Step::Collect(halvings) => {
+            if halvings != number(seat) {
+                return Call::Nothing;
+            }
+            collect(caller(seat), asks, seats.tickets[seat])
+        }
     }
 }
 
 // What an answer tells: the state or the refusal's number, or nothing that concerns a model.
 fn heard_of(answer: Answer) -> Heard {
     match answer {
-        Answer::State(settled) => {
+        Answer::State {
+            settled,
+            number: _,
+            lo: _,
+            hi: _,
+        } => {
             let single = settled.single;
             Heard::Known(Known::State(single))
         }

@@ -10,6 +10,9 @@ use crate::model::Output;
 use crate::turbine::places::Place;
 use states::Single;
 
+// How many halvings settle a state that the turbine asks for: its shaft power wants fine ones.
+pub(crate) const HALVINGS: u64 = 50;
+
 // How much steam flows through the turbine, in kg/s.
 const STEAM_FLOW: f64 = 50.0;
 

@@ -32,9 +32,9 @@ called-has P rest w h op caller a =
     choice P (eqb op 3) (λ _. w .asked h _)
     (λ _. choice P (eqb op 4) (λ _. w .asked h _) (λ _. choice P (eqb op 5) (λ _. w .asked h _) (λ _. w .bad)))
 
-plain-has : (P : Deed → Type 0) (rest : List ℕ) → Ways P rest → recordBytes ≤ length rest → (op caller a b c : ℕ) → P (plainOf op caller a b c)
+plain-has : (P : Deed → Type 0) (rest : List ℕ) → Ways P rest → recordBytes ≤ length rest → (op caller a b c d : ℕ) → P (plainOf op caller a b c d)
 unfolding plainOf
-plain-has P rest w h op caller a b c =
+plain-has P rest w h op caller a b c d =
     choice P (eqb op 1) (λ _. w .asked h _)
     (λ _. choice P (eqb op 2)
     (λ _. choice P (leb a mostTurns) (λ e. w .turns h a (leb-true a mostTurns e)) (λ _. w .bad))
@@ -50,7 +50,7 @@ read-has P rest w =
     choice P (leb recordBytes (length rest))
     (λ h. choice P (eqb (wordOf rest 0) 6)
     (λ _. choice P (rowsKnown rest) (λ e. w .given (desk-there rest e)) (λ _. w .bad))
-    (λ _. plain-has P rest w (leb-true recordBytes (length rest) h) (wordOf rest 0) (wordOf rest 1) (wordOf rest 2) (wordOf rest 3) (wordOf rest 4)))
+    (λ _. plain-has P rest w (leb-true recordBytes (length rest) h) (wordOf rest 0) (wordOf rest 1) (wordOf rest 2) (wordOf rest 3) (wordOf rest 4) (wordOf rest 5)))
     (λ _. w .bad)
 
 -- how many turns are asked for

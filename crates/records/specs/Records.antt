@@ -1,5 +1,5 @@
--- A run of desk calls in bytes: records of five little-endian u64s, op, caller, a, b and c, one behind the other. `rest` is what is left of the run, so
--- that a record's words are numbers 0 to 4 of it. Definitions only.
+-- A run of desk calls in bytes: records of six little-endian u64s, op, caller, a, b, c and d, one behind the other. `rest` is what is left of the run, so
+-- that a record's words are numbers 0 to 5 of it. Definitions only.
 use Prim.Native.Nat.{ℕ, zero, suc, _+_, _*_}
 use mathlib.Core.Bool.{Bool, cond, _&&_}
 use mathlib.Core.List.{List, [], _∷_, _++_}
@@ -14,12 +14,12 @@ use Rattle.records.specs.declared.Call.the-variants.{Post, Peek, Collect
 use Rattle.records.specs.declared.Deed.{Deed}
 use Rattle.records.specs.declared.Deed.the-variants.{Asked, Turns, Given, Shown, Bad}
 
--- the bytes of a record, and of one with a desk behind it: 329 words more
+-- the bytes of a record, and of one with a desk behind it: 361 words more
 abbrev pub recordBytes : ℕ
-recordBytes = 40
+recordBytes = 48
 
 abbrev pub deskBytes : ℕ
-deskBytes = 2672
+deskBytes = 2936
 
 -- as many turns as one record may ask for
 abbrev pub mostTurns : ℕ
@@ -32,14 +32,14 @@ unfoldable pub called : ℕ → ℕ → ℕ → Deed
 called op caller a =
     cond (eqb op 3) (Asked (Peek caller a)) (cond (eqb op 4) (Asked (Collect caller a)) (cond (eqb op 5) (Asked (Withdraw caller a)) Bad))
 
--- 1 post: a is the kind, b and c the bits of p and y; 2 turn, a times; 7 show the desk
-unfoldable pub plainOf : ℕ → ℕ → ℕ → ℕ → ℕ → Deed
-plainOf op caller a b c =
+-- 1 post: a is the kind, b and c the bits of p and y, d the number of halvings; 2 turn, a times; 7 show the desk
+unfoldable pub plainOf : ℕ → ℕ → ℕ → ℕ → ℕ → ℕ → Deed
+plainOf op caller a b c d =
     cond (eqb op 1)
-    (Asked (Post caller a (floatOf b) (floatOf c)))
+    (Asked (Post caller a (floatOf b) (floatOf c) d))
     (cond (eqb op 2) (cond (leb a mostTurns) (Turns a) Bad) (cond (eqb op 7) Shown (called op caller a)))
 
--- ---- a desk in words: the pointer, 8 counts, and 32 rows of ten words each
+-- ---- a desk in words: the pointer, 8 counts, and 32 rows of eleven words each
 
 -- f 0 to f (n - 1)
 unfoldable pub made : {A : Type 0} → (ℕ → A) → ℕ → List A
@@ -48,7 +48,7 @@ made f (suc n) = made f n ++ f n ∷ []
 
 -- where row i starts; its first word says whether it is filled
 abbrev pub rowStart : ℕ → ℕ
-rowStart i = 14 + 10 * i
+rowStart i = 15 + 11 * i
 
 -- a desk is there, and every row is filled or not: 1 or 0
 unfoldable pub rowsKnown : List ℕ → Bool
@@ -65,16 +65,17 @@ rowIn rest i =
       region = wordOf rest (k + 4);
       p = floatOf (wordOf rest (k + 5));
       y = floatOf (wordOf rest (k + 6));
-      halvings = wordOf rest (k + 7);
-      lo = floatOf (wordOf rest (k + 8));
-      hi = floatOf (wordOf rest (k + 9));
+      number = wordOf rest (k + 7);
+      halvings = wordOf rest (k + 8);
+      lo = floatOf (wordOf rest (k + 9));
+      hi = floatOf (wordOf rest (k + 10));
     }
 
 abbrev pub countIn : List ℕ → ℕ → ℕ
-countIn rest c = wordOf rest (6 + c)
+countIn rest c = wordOf rest (7 + c)
 
 unfoldable pub deskIn : List ℕ → Desk
-deskIn rest = record { rows = made (rowIn rest) 32; counts = made (countIn rest) 8; pointer = wordOf rest 5 }
+deskIn rest = record { rows = made (rowIn rest) 32; counts = made (countIn rest) 8; pointer = wordOf rest 6 }
 
 -- ---- reading a record
 
@@ -84,5 +85,5 @@ deedOf rest =
     cond (leb recordBytes (length rest))
     (cond (eqb (wordOf rest 0) 6)
     (cond (rowsKnown rest) Given Bad)
-    (plainOf (wordOf rest 0) (wordOf rest 1) (wordOf rest 2) (wordOf rest 3) (wordOf rest 4)))
+    (plainOf (wordOf rest 0) (wordOf rest 1) (wordOf rest 2) (wordOf rest 3) (wordOf rest 4) (wordOf rest 5)))
     Bad

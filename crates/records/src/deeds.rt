@@ -22,8 +22,8 @@ fn by_ticket(op: u64, caller: u64, ticket: u64) -> Deed
 }
 
 // A record with no desk behind it: 1 post, 2 turns, 7 show, or a call that names a ticket.
-fn plain(op: u64, caller: u64, a: u64, b: u64, c: u64) -> Deed
-    ensures { λ r. ⌜ r ≡ plainOf op caller a b c ⌝ }
+fn plain(op: u64, caller: u64, a: u64, b: u64, c: u64, d: u64) -> Deed
+    ensures { λ r. ⌜ r ≡ plainOf op caller a b c d ⌝ }
 {
     if op == 1 {
         return Deed::Asked(Call::Post {
@@ -31,6 +31,7 @@ fn plain(op: u64, caller: u64, a: u64, b: u64, c: u64) -> Deed
             kind: a,
             p: arith::float_of(b),
             y: arith::float_of(c),
+            number: d,
         });
     }
     if op == 2 {
@@ -49,7 +50,7 @@ fn plain(op: u64, caller: u64, a: u64, b: u64, c: u64) -> Deed
 pub fn read(rest: &[u8]) -> Deed
     ensures { λ r. ⌜ r ≡ deedOf (now (rest .entry)) ⌝ }
 {
-    if rest.len() < 40 {
+    if rest.len() < 48 {
         return Deed::Bad;
     }
     let op = words::word(rest, 0);
@@ -65,5 +66,6 @@ pub fn read(rest: &[u8]) -> Deed
         words::word(rest, 2),
         words::word(rest, 3),
         words::word(rest, 4),
+        words::word(rest, 5),
     )
 }

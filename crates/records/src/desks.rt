@@ -1,5 +1,5 @@
-// A desk in words (specs/Records.antt): behind the five words of its record the pointer, eight counts and
-// 32 rows of ten words each.
+// A desk in words (specs/Records.antt): behind the six words of its record the pointer, eight counts and
+// 32 rows of eleven words each.
 use ledger::Desk;
 use ledger::Row;
 ghost use mathlib.Core.Path.{_≡_};
@@ -11,14 +11,14 @@ fn row_start(i: usize) -> usize
     requires { ⌜ i < 32 ⌝ }
     ensures { λ r. ⌜ r ≡ rowStart i ⌝ }
 {
-    14 + 10 * i
+    15 + 11 * i
 }
 
 // Whether the words of a desk are all there, and each row is filled or not, 1 or 0.
 pub(crate) fn rows_known(rest: &[u8]) -> bool
     ensures { λ r. ⌜ r ≡ rowsKnown (now (rest .entry)) ⌝ }
 {
-    if rest.len() < 2672 {
+    if rest.len() < 2936 {
         return false;
     }
     let mut i = 0;
@@ -45,9 +45,10 @@ fn row_in(rest: &[u8], i: usize) -> Row
         region: words::word(rest, k + 4),
         p: arith::float_of(words::word(rest, k + 5)),
         y: arith::float_of(words::word(rest, k + 6)),
-        halvings: words::word(rest, k + 7),
-        lo: arith::float_of(words::word(rest, k + 8)),
-        hi: arith::float_of(words::word(rest, k + 9)),
+        number: words::word(rest, k + 7),
+        halvings: words::word(rest, k + 8),
+        lo: arith::float_of(words::word(rest, k + 9)),
+        hi: arith::float_of(words::word(rest, k + 10)),
     }
 }
 
@@ -73,7 +74,7 @@ fn counts_in(rest: &[u8]) -> [u64; 8]
     let mut counts = [0u64; 8];
     let mut c = 0;
     while c < 8 {
-        counts[c] = words::word(rest, 6 + c);
+        counts[c] = words::word(rest, 7 + c);
         c += 1;
     }
     counts
@@ -88,6 +89,6 @@ pub fn desk_in(rest: &[u8]) -> Desk
     Desk {
         rows: rows,
         counts: counts,
-        pointer: words::word(rest, 5),
+        pointer: words::word(rest, 6),
     }
 }

@@ -1,5 +1,5 @@
-// A run of desk calls in bytes, read record by record. A record is five little-endian u64s, op, caller,
-// a, b and c; the desk that op 6 gives stands behind its record as 329 more. What is read is said in
+// A run of desk calls in bytes, read record by record. A record is six little-endian u64s, op, caller,
+// a, b, c and d; the desk that op 6 gives stands behind its record as 361 more. What is read is said in
 // specs/Records.antt.
 mod deeds;
 mod desks;
@@ -14,6 +14,7 @@ pub enum Call {
         kind: u64,
         p: f64,
         y: f64,
+        number: u64,
     },
     Peek {
         caller: u64,

@@ -8,7 +8,7 @@ use Rattle.runs.specs.Runs.{HalvedOnce}
 
 pub halved-once : (r : Row) → HalvedOnce r (halvedRow r)
 unfolding halvedRow
-halved-once r = record { same-ticket = (refl, refl, refl); same-region = refl; same-query = refl; one-more = refl; own-bracket = refl }
+halved-once r = record { same-ticket = (refl, refl, refl); same-region = refl; same-query = refl; same-number = refl; one-more = refl; own-bracket = refl }
 
 module _ (c : ℕ) (r : Row) where
   pub of-halved : ofCaller c (halvedRow r) ≡ ofCaller c r

@@ -9,15 +9,15 @@ use lib.Seq.{getD-set-same}
 use lib.Dec.{ltb, eqb}
 use lib.Ieee.{Float}
 use borrow.Author.Tests.{ltb-true, ltb-false}
-use Rattle.settle.specs.declared.Settled.{Settled}
 use Rattle.settle.proofs.Phases.{phase-region}
 use Rattle.ledger.specs.declared.Row.{Row}
 use Rattle.ledger.specs.declared.Desk.{Desk}
+use Rattle.runs.specs.declared.Answer.{Answer}
 use Rattle.runs.specs.declared.Answer.the-variants as Answer
 use Rattle.runs.specs.declared.Open.{Open}
 use Rattle.runs.specs.declared.Open.the-variants.{At, Closed}
 use Rattle.ledger.specs.Search.{bit}
-use Rattle.ledger.specs.Rows.{due, most, blank, row, counted, held, ofCaller, vacant, unfinished, tally, lowest, put}
+use Rattle.ledger.specs.Rows.{most, blank, row, counted, held, ofCaller, vacant, unfinished, tally, lowest, put}
 use Rattle.runs.specs.Model.{newDesk, answers, refuse, fresh, halvedRow, next, past, turnedAt, turnOf, openOf, emptied, peekAt, collectAt, withdrawAt, peekOf, collectOf, withdrawOf}
 use Rattle.ledger.proofs.Search.{not-some, count-zero}
 use Rattle.ledger.proofs.Tests.{of-is, of-empty, held-is, held-empty, unfinished-is, Right}
@@ -56,6 +56,8 @@ good-put d g j r n p k l = record {
           region-high = o .region-high;
           kind-low = o .kind-low;
           kind-high = o .kind-high;
+          number-low = o .number-low;
+          number-high = o .number-high;
           within = o .within;
         });
     once = λ c t. omega (arith, k .one c t, tally-put (held c t) d j r n p (g .long) (k .place));
@@ -91,6 +93,8 @@ good-turned d g j l u = good-put d g j (halvedRow (row d j)) (d .counts) (past j
         region-high = o .region-high;
         kind-low = o .kind-low;
         kind-high = o .kind-high;
+        number-low = o .number-low;
+        number-high = o .number-high;
         within = omega arith;
       };
   one = λ c t. omega (arith, g .rows .once c t, ap bit (held-halved c (row d j) t));
@@ -110,10 +114,10 @@ unfolding tally
 not-yet d g c t h = count-zero (λ i. held c t (row d i)) 32 (λ i l. not-some (held c t (row d i)) (λ e.
     absurd (omega (arith, was-given d g c t i l e))))
 
-pub held-fresh : (c t e n : ℕ) (j : Job) → held c t (fresh e n (j .query) (j .bracket)) ≡ true → (e ≡ c) × (n ≡ t)
-held-fresh c t e n j h = let o = held-is c (fresh e n (j .query) (j .bracket)) t h in (o .1, o .2)
+pub held-fresh : (c t e n : ℕ) (j : Job) → held c t (fresh e n (j .query) (j .number) (j .bracket)) ≡ true → (e ≡ c) × (n ≡ t)
+held-fresh c t e n j h = let o = held-is c (fresh e n (j .query) (j .number) (j .bracket)) t h in (o .1, o .2)
 
-module _ (d : Desk) (g : Good d) (c k : ℕ) (p y : Float) (j : Job) (o : Granted c k p y (counted d c) (tally (ofCaller c) d) j) where
+module _ (d : Desk) (g : Good d) (c k : ℕ) (p y : Float) (number : ℕ) (j : Job) (o : Granted c k p y number (counted d c) (tally (ofCaller c) d) j) where
   -- the row that a granted post takes
   pub seat-free : lowest vacant d < 32
   seat-free = free-row d (g .rows) c (o .who) (o .spare)
@@ -122,7 +126,7 @@ module _ (d : Desk) (g : Good d) (c k : ℕ) (p y : Float) (j : Job) (o : Grante
   counts-wide = omega (arith, g .wide, o .who)
 
   abbrev new : Row
-  new = fresh c (counted d c) (j .query) (j .bracket)
+  new = fresh c (counted d c) (j .query) (j .number) (j .bracket)
 
   once : (e t : ℕ) (b : Bool) → held e t new ≡ b → tally (held e t) d + bit b ≤ 1 + bit (held e t (row d (lowest vacant d)))
   once e t false h = omega (arith, g .rows .once e t)
@@ -154,6 +158,8 @@ module _ (d : Desk) (g : Good d) (c k : ℕ) (p y : Float) (j : Job) (o : Grante
               region-high = r .1;
               kind-low = omega (arith, o .kind-low);
               kind-high = omega (arith, o .kind-high);
+              number-low = omega (arith, o .number-posted, o .number-low);
+              number-high = omega (arith, o .number-posted, o .number-high);
               within = omega arith;
             };
         one = λ e t. once e t (held e t new) refl;
@@ -166,16 +172,16 @@ pub data Effect (d : Desk) : Call → Desk → Type 0 where
   kept : (x : Call) → isTurn x ≡ false → Effect d x d
   idled : 32 ≤ next d → Effect d turn d
   turned : next d < 32 → Effect d turn (turnedAt d ((d .pointer + next d) % 32))
-  seated : (c k : ℕ) (p y : Float) (j : Job) → Granted c k p y (counted d c) (tally (ofCaller c) d) j → rulingAt d c k p y ≡ given j → Effect d (post c k p y) (seats d c j)
+  seated : (c k : ℕ) (p y : Float) (number : ℕ) (j : Job) → Granted c k p y number (counted d c) (tally (ofCaller c) d) j → rulingAt d c k p y number ≡ given j → Effect d (post c k p y number) (seats d c j)
   freed : (x : Call) → isTurn x ≡ false → (e t : ℕ) → ((c : ℕ) → asks c x ≡ eqb e c) → (i : ℕ) → Seat d e t i → Effect d x (emptied d i)
 
 pub effect : (d : Desk) → Good d → (x : Call) → Effect d x (step d x .desk)
 unfolding turnOf peekOf collectOf withdrawOf peekAt collectAt withdrawAt
-effect d g (post c k p y) = rw (post-ruled d c k p y (good-sound d g)) (go (rulingAt d c k p y) refl)
+effect d g (post c k p y number) = rw (post-ruled d c k p y number (good-sound d g)) (go (rulingAt d c k p y number) refl)
   where
-    go : (r : Ruling) → rulingAt d c k p y ≡ r → Effect d (post c k p y) (onRuling d c r .desk)
-    go (against n) e = kept (post c k p y) refl
-    go (given j) e = seated c k p y j (ruling-given c k p y (counted d c) (tally (ofCaller c) d) j e) e
+    go : (r : Ruling) → rulingAt d c k p y number ≡ r → Effect d (post c k p y number) (onRuling d c r .desk)
+    go (against n) e = kept (post c k p y number) refl
+    go (given j) e = seated c k p y number j (ruling-given c k p y number (counted d c) (tally (ofCaller c) d) j e) e
 effect d g turn = rw (good-sound d g) (go (ltb (next d) 32) refl)
   where
     go : (b : Bool) → ltb (next d) 32 ≡ b → Effect d turn ((cond b (answers Answer.Halved (turnedAt d ((d .pointer + next d) % 32))) (answers Answer.Idle d)) .desk)
@@ -188,13 +194,13 @@ effect d g (peek c t) = go (openOf d c t)
     go (At i) = kept (peek c t) refl
 effect d g (collect c t) = go (openOf d c t) refl
   where
-    done : (i : ℕ) → Seat d c t i → (b : Bool) (v : Settled) → Effect d (collect c t) ((cond b (refuse 12 d) (answers (Answer.State v) (emptied d i))) .desk)
-    done i s true v = kept (collect c t) refl
-    done i s false v = freed (collect c t) refl c t (λ _. refl) i s
+    done : (i : ℕ) → Seat d c t i → (b : Bool) (a : Answer) → Effect d (collect c t) ((cond b (refuse 12 d) (answers a (emptied d i))) .desk)
+    done i s true a = kept (collect c t) refl
+    done i s false a = freed (collect c t) refl c t (λ _. refl) i s
 
     go : (o : Open) → openOf d c t ≡ o → Effect d (collect c t) (collectAt d o .desk)
     go (Closed n) e = kept (collect c t) refl
-    go (At i) e = done i (open-seat d c t i e) (ltb (row d i .halvings) due) _
+    go (At i) e = done i (open-seat d c t i e) (ltb (row d i .halvings) (row d i .number)) _
 effect d g (withdraw c t) = go (openOf d c t) refl
   where
     go : (o : Open) → openOf d c t ≡ o → Effect d (withdraw c t) (withdrawAt d o .desk)
@@ -205,7 +211,7 @@ good-effect : (d e : Desk) (x : Call) → Good d → Effect d x e → Good e
 good-effect d e x g (kept y h) = g
 good-effect d e x g (idled h) = g
 good-effect d e x g (turned h) = good-turned d g ((d .pointer + next d) % 32) (omega arith) (onward-true unfinished d (d .pointer) h)
-good-effect d e x g (seated c k p y j o q) = good-seated d g c k p y j o
+good-effect d e x g (seated c k p y number j o q) = good-seated d g c k p y number j o
 good-effect d e x g (freed y q c t a i s) = good-emptied d g i (s .place)
 
 pub good-step : (d : Desk) (x : Call) → Good d → Good (step d x .desk)

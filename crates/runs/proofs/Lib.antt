@@ -11,4 +11,6 @@ pub mod Posted
 pub mod Once
 pub mod Same
 pub mod Received
+pub mod Enclosed
+pub mod Paced
 pub mod Demand

@@ -32,19 +32,19 @@ parted (z ∷ l) x r (z′ ∷ l′) x′ r′ e =
 
 module _ (c t : ℕ) (run : List Call) where
   -- where a post got ticket t, no later one does: the count is past it
-  spent : (a b : Origin c t run) (between : List Call) → b .pre ≡ a .pre ++ post c (a .kind) (a .p) (a .y) ∷ between → ⊥
+  spent : (a b : Origin c t run) (between : List Call) → b .pre ≡ a .pre ++ post c (a .kind) (a .p) (a .y) (a .number) ∷ between → ⊥
   spent a b between q =
-      let past = followed c t (a .kind) (a .p) (a .y) (a .pre) between (a .posted .1) .tracked .mine in
-      let count = got (after (b .pre)) (good-after (b .pre)) c (b .kind) (b .p) (b .y) t (b .posted .1) .own in
+      let past = followed c t (a .kind) (a .p) (a .y) (a .number) (a .pre) between (a .posted .1) .tracked .mine in
+      let count = got (after (b .pre)) (good-after (b .pre)) c (b .kind) (b .p) (b .y) (b .number) t (b .posted .1) .own in
       let past′ : t < counted (after (b .pre)) c = subst (λ (l : List Call). t < counted (after l) c) (sym q) past in
       omega arith
 
-  pub one-post : (a b : Origin c t run) → (a .pre ≡ b .pre) × (a .kind ≡ b .kind) × (a .p ≡ b .p) × (a .y ≡ b .y) × (a .since ≡ b .since)
+  pub one-post : (a b : Origin c t run) → (a .pre ≡ b .pre) × (a .kind ≡ b .kind) × (a .p ≡ b .p) × (a .y ≡ b .y) × (a .number ≡ b .number) × (a .since ≡ b .since)
   one-post a b =
-      go (parted (a .pre) (post c (a .kind) (a .p) (a .y)) (a .since) (b .pre) (post c (b .kind) (b .p) (b .y)) (b .since) (sym (a .posted .0) ∙ b .posted .0))
+      go (parted (a .pre) (post c (a .kind) (a .p) (a .y) (a .number)) (a .since) (b .pre) (post c (b .kind) (b .p) (b .y) (b .number)) (b .since) (sym (a .posted .0) ∙ b .posted .0))
     where
-      go : Parted (a .pre) (post c (a .kind) (a .p) (a .y)) (a .since) (b .pre) (post c (b .kind) (b .p) (b .y)) (b .since)
-          → (a .pre ≡ b .pre) × (a .kind ≡ b .kind) × (a .p ≡ b .p) × (a .y ≡ b .y) × (a .since ≡ b .since)
-      go (same e f g) = (e, cc, cc, cc, g)
+      go : Parted (a .pre) (post c (a .kind) (a .p) (a .y) (a .number)) (a .since) (b .pre) (post c (b .kind) (b .p) (b .y) (b .number)) (b .since)
+          → (a .pre ≡ b .pre) × (a .kind ≡ b .kind) × (a .p ≡ b .p) × (a .y ≡ b .y) × (a .number ≡ b .number) × (a .since ≡ b .since)
+      go (same e f g) = (e, cc, cc, cc, cc, g)
       go (sooner m q) = absurd (spent a b m q)
       go (later m q) = absurd (spent b a m q)

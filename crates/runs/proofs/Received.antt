@@ -13,9 +13,9 @@ use borrow.Author.Tests.{lt-ltb, le-ltb}
 use Rattle.ledger.specs.declared.Desk.{Desk}
 use Rattle.runs.specs.declared.Answer.the-variants.{Ticket, Shown}
 use Rattle.ledger.specs.Search.{bit}
-use Rattle.ledger.specs.Rows.{due, blank, row, counted, held, ofCaller, vacant, tally, lowest}
+use Rattle.ledger.specs.Rows.{blank, row, counted, held, ofCaller, vacant, tally, lowest}
 use Rattle.runs.specs.Model.{newDesk, fresh, halvedRow, next, past, turnedAt}
-use Rattle.ledger.proofs.Tests.{held-is, held-empty}
+use Rattle.ledger.proofs.Tests.{held-empty}
 use Rattle.runs.proofs.Halved.{held-halved}
 use Rattle.ledger.proofs.Changes.{row-each, counts-each}
 use Rattle.ledger.proofs.Good.{Good}
@@ -23,7 +23,7 @@ use Rattle.runs.proofs.Tickets.{one-row}
 use Rattle.runs.specs.Runs.{Call, post, peek, step, afterFrom, after, answerTo, goesTo, received}
 use Rattle.runs.proofs.Posts.{Job, Granted, seats}
 use Rattle.runs.proofs.Kept.{Effect, kept, idled, turned, seated, freed, effect, good-step, held-fresh, seat-free, counts-wide, was-given}
-use Rattle.runs.proofs.Own.{good-from, good-after, after-append, got, peeked}
+use Rattle.runs.proofs.Own.{good-after, after-append, got, peeked}
 
 module _ (c t : ℕ) where
   record Has (h : ℕ) (d : Desk) : Type 0 where
@@ -53,10 +53,10 @@ module _ (c t : ℕ) where
   has-effect h d e x g o (kept y q) = rw q (record { mine = o .mine; has = λ i l r. omega (arith, o .has i l r) })
   has-effect h d e x g o (idled q) = rw (le-ltb (next d) 32 q) (record { mine = o .mine; has = λ i l r. omega (arith, o .has i l r) })
   has-effect h d e x g o (turned q) = rw (lt-ltb (next d) 32 q) (has-turned h d g o ((d .pointer + next d) % 32) (omega arith))
-  has-effect h d e x g o (seated c′ k p y j w r) = record {
-    mine = omega (arith, o .mine, counts-each (d .counts) c′ (counted d c′ + 1) (λ i v. counted d i ≤ v) (counts-wide d g c′ k p y j w) (omega arith) (λ i q. omega arith) c);
-    has = row-each d (lowest vacant d) (fresh c′ (counted d c′) (j .query) (j .bracket)) (set (d .counts) c′ (counted d c′ + 1)) (d .pointer) (λ i v. held c t v ≡ true → v .halvings ≡ h + 0) (g .long)
-        (seat-free d g c′ k p y j w)
+  has-effect h d e x g o (seated c′ k p y number j w r) = record {
+    mine = omega (arith, o .mine, counts-each (d .counts) c′ (counted d c′ + 1) (λ i v. counted d i ≤ v) (counts-wide d g c′ k p y number j w) (omega arith) (λ i q. omega arith) c);
+    has = row-each d (lowest vacant d) (fresh c′ (counted d c′) (j .query) (j .number) (j .bracket)) (set (d .counts) c′ (counted d c′ + 1)) (d .pointer) (λ i v. held c t v ≡ true → v .halvings ≡ h + 0) (g .long)
+        (seat-free d g c′ k p y number j w)
         (λ q.
         let s = held-fresh c t c′ (counted d c′) j q in
         let z = ap (λ (v : ℕ). counted d v) (s .0) in
@@ -77,26 +77,24 @@ module _ (c t : ℕ) where
       let r = has-run (h + bit (goesTo c t d x)) (step d x .desk) xs (good-step d x g) (has-effect h d (step d x .desk) x g o (effect d g x)) in
       record { mine = r .mine; has = λ i l q. omega (arith, r .has i l q) }
 
-  has-fresh : (d : Desk) → Good d → (k : ℕ) (p y : Float) (j : Job) → Granted c k p y (counted d c) (tally (ofCaller c) d) j → counted d c ≡ t → Has 0 (seats d c j)
-  has-fresh d g k p y j w own = record {
-    mine = rw (getD-set-same (d .counts) c (counted d c + 1) 0 (counts-wide d g c k p y j w)) (omega arith);
-    has = row-each d (lowest vacant d) (fresh c (counted d c) (j .query) (j .bracket)) (set (d .counts) c (counted d c + 1)) (d .pointer) (λ i v. held c t v ≡ true → v .halvings ≡ 0) (g .long)
-        (seat-free d g c k p y j w) (λ q. refl) (λ i l ne q. absurd (omega (arith, was-given d g c t i l q)));
+  has-fresh : (d : Desk) → Good d → (k : ℕ) (p y : Float) (number : ℕ) (j : Job) → Granted c k p y number (counted d c) (tally (ofCaller c) d) j → counted d c ≡ t → Has 0 (seats d c j)
+  has-fresh d g k p y number j w own = record {
+    mine = rw (getD-set-same (d .counts) c (counted d c + 1) 0 (counts-wide d g c k p y number j w)) (omega arith);
+    has = row-each d (lowest vacant d) (fresh c (counted d c) (j .query) (j .number) (j .bracket)) (set (d .counts) c (counted d c + 1)) (d .pointer) (λ i v. held c t v ≡ true → v .halvings ≡ 0) (g .long)
+        (seat-free d g c k p y number j w) (λ q. refl) (λ i l ne q. absurd (omega (arith, was-given d g c t i l q)));
   }
 
-  pub peek-received : (k : ℕ) (p y : Float) (pre since : List Call) (n : ℕ) (lo hi : Float) → answerTo pre (post c k p y) ≡ Ticket t
-      → answerTo (pre ++ post c k p y ∷ since) (peek c t) ≡ Shown n lo hi → (n ≡ received c t (after (pre ++ post c k p y ∷ [])) since) × (n ≤ due)
+  pub peek-received : (k : ℕ) (p y : Float) (number : ℕ) (pre since : List Call) (n : ℕ) (lo hi : Float) → answerTo pre (post c k p y number) ≡ Ticket t
+      → answerTo (pre ++ post c k p y number ∷ since) (peek c t) ≡ Shown n lo hi → n ≡ received c t (after (pre ++ post c k p y number ∷ [])) since
   unfolding afterFrom
-  peek-received k p y pre since n lo hi e q =
-      let w = got d₀ g₀ c k p y t e in
-      let o : Has 0 d = rw (w .leaves) (has-fresh d₀ g₀ k p y (w .job) (w .granted) (w .own)) in
+  peek-received k p y number pre since n lo hi e q =
+      let w = got d₀ g₀ c k p y number t e in
+      let o : Has 0 d = rw (w .leaves) (has-fresh d₀ g₀ k p y number (w .job) (w .granted) (w .own)) in
       let v = afterFrom d since in
-      let z = peeked v c t n lo hi (subst (λ (v : Desk). step v (peek c t) .answer ≡ Shown n lo hi) (after-append newDesk pre (post c k p y ∷ since)) q) in
+      let z = peeked v c t n lo hi (subst (λ (v : Desk). step v (peek c t) .answer ≡ Shown n lo hi) (after-append newDesk pre (post c k p y number ∷ since)) q) in
       let s = z .seat in
-      let one = ap (λ (v : Desk). received c t v since) (after-append newDesk pre (post c k p y ∷ [])) in (
-        omega (arith, z .halvings, one, has-run 0 d since g o .has (z .at) (s .place) (s .has)),
-        omega (arith, z .halvings, good-from d g since .rows .each (z .at) (s .place) (held-is c (row v (z .at)) t (s .has) .0) .within),
-      )
+      let one = ap (λ (v : Desk). received c t v since) (after-append newDesk pre (post c k p y number ∷ [])) in
+      omega (arith, z .halvings, one, has-run 0 d since g o .has (z .at) (s .place) (s .has))
     where
       d₀ : Desk
       d₀ = after pre
@@ -105,7 +103,7 @@ module _ (c t : ℕ) where
       g₀ = good-after pre
 
       d : Desk
-      d = step d₀ (post c k p y) .desk
+      d = step d₀ (post c k p y number) .desk
 
       g : Good d
-      g = good-step d₀ (post c k p y) g₀
+      g = good-step d₀ (post c k p y number) g₀

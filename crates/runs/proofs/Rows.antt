@@ -11,7 +11,7 @@ use Rattle.ledger.specs.declared.Desk.{Desk}
 use Rattle.runs.specs.declared.Answer.the-variants.{Halved, Idle}
 use Rattle.runs.specs.declared.Open.{Open}
 use Rattle.runs.specs.declared.Open.the-variants.{At}
-use Rattle.ledger.specs.Rows.{due, row, held, unfinished, onward, lowest}
+use Rattle.ledger.specs.Rows.{row, held, unfinished, onward, lowest}
 use Rattle.runs.specs.Answers.{whole, kelvin, state, Tells}
 use Rattle.runs.specs.Model.{answers, queryOf, settle, halvedRow, next, past, turnedAt, turnOf, openOf, emptied, peekAt, collectAt, withdrawAt, peekOf, collectOf, withdrawOf}
 use Rattle.ledger.proofs.Search.{and-true, least-le, least-none}
@@ -57,14 +57,16 @@ module _ (d : Desk) (g : Good d) (c t i : ℕ) (place : i < 32) (has : held c t 
   unfolding peekOf peekAt
   peek-row = rw opened (record { number = refl; values = refl; leaves = refl })
 
-  pub collect-row : due ≤ row d i .halvings
-      → Tells (step d (collect c t)) 0 (state (settle (queryOf (row d i)) (record { lo = row d i .lo; hi = row d i .hi })) ∷ []) (emptied d i)
+  pub collect-row : row d i .number ≤ row d i .halvings
+      → Tells (step d (collect c t)) 0
+      (state (settle (queryOf (row d i)) (record { lo = row d i .lo; hi = row d i .hi })) ∷ whole (row d i .number) ∷ kelvin (row d i .lo) ∷ kelvin (row d i .hi) ∷ [])
+      (emptied d i)
   unfolding collectOf collectAt
-  collect-row h = rw (opened, le-ltb (row d i .halvings) due h) (record { number = refl; values = refl; leaves = refl })
+  collect-row h = rw (opened, le-ltb (row d i .halvings) (row d i .number) h) (record { number = refl; values = refl; leaves = refl })
 
-  pub early-row : row d i .halvings < due → Tells (step d (collect c t)) 12 [] d
+  pub early-row : row d i .halvings < row d i .number → Tells (step d (collect c t)) 12 [] d
   unfolding collectOf collectAt
-  early-row h = rw (opened, lt-ltb (row d i .halvings) due h) (record { number = refl; values = refl; leaves = refl })
+  early-row h = rw (opened, lt-ltb (row d i .halvings) (row d i .number) h) (record { number = refl; values = refl; leaves = refl })
 
   pub withdraw-row : Tells (step d (withdraw c t)) 0 [] (emptied d i)
   unfolding withdrawOf withdrawAt

@@ -13,26 +13,25 @@ use lib.Ieee.{Float}
 use borrow.Author.Tests.{le-ltb, lt-ltb, eqb-true, eqb-false}
 use Rattle.brackets.specs.Brackets.{times}
 use Rattle.brackets.specs.declared.Bracket.{Bracket}
-use Rattle.settle.specs.declared.Settled.{Settled}
 use Rattle.ledger.specs.declared.Row.{Row}
 use Rattle.ledger.specs.declared.Desk.{Desk}
 use Rattle.runs.specs.declared.Outcome.{Outcome}
 use Rattle.runs.specs.declared.Answer.{Answer}
-use Rattle.runs.specs.declared.Answer.the-variants.{Refused, Ticket, Idle, State, Freed}
+use Rattle.runs.specs.declared.Answer.the-variants.{Refused, Ticket, Idle, Freed}
 use Rattle.runs.specs.declared.Open.the-variants.{Closed}
-use Rattle.ledger.specs.Rows.{due, blank, row, counted, held, ofCaller, vacant, tally, lowest, put}
-use Rattle.runs.specs.Model.{newDesk, answers, refuse, Query, queryOf, bracketOf, halve, settle, fresh, halvedRow, next, past, openOf, emptied, collectAt, withdrawAt, collectOf, withdrawOf}
+use Rattle.ledger.specs.Rows.{blank, row, counted, held, ofCaller, vacant, tally, lowest, put}
+use Rattle.runs.specs.Model.{newDesk, answers, refuse, Query, queryOf, bracketOf, halve, fresh, halvedRow, next, past, openOf, emptied, collectAt, withdrawAt, collectOf, withdrawOf}
 use Rattle.ledger.proofs.Search.{not-some}
 use Rattle.ledger.proofs.Tests.{of-empty, of-other, is-of, held-is, held-of, is-held, held-empty, vacant-is}
 use Rattle.runs.proofs.Halved.{of-halved, held-halved}
 use Rattle.ledger.proofs.Changes.{tally-same, tally-more, tally-less, lowest-true, none-lowest, some-lowest}
 use Rattle.ledger.proofs.Good.{Good, good-sound}
 use Rattle.runs.proofs.Tickets.{Seat, seat-open}
-use Rattle.runs.specs.Runs.{Call, post, turn, peek, collect, withdraw, step, afterFrom, after, Entry, historyFrom, history, keep, asks, ownCalls, ownPart, enough, turns, OpenFor, Patient}
+use Rattle.runs.specs.Runs.{Call, post, turn, peek, collect, withdraw, step, afterFrom, after, Entry, historyFrom, history, keep, asks, ownCalls, ownPart, enoughFor, turns, OpenFor, Patient}
 use Rattle.runs.proofs.Posts.{Job, Ruling, against, given, ruling, rulingAt, Granted, seats, onRuling, post-ruled, ruling-given}
 use Rattle.runs.proofs.Kept.{Effect, kept, idled, turned, seated, freed, effect, good-step, good-new, tally-new, count-new, not-yet, held-fresh, seat-free, counts-wide}
 use Rattle.runs.proofs.Fair.{Tracked, aged, tracked-step}
-use Rattle.runs.proofs.Own.{tracked-fresh, Followed, followed, ready, ready-at}
+use Rattle.runs.proofs.Own.{tracked-fresh, Followed, followed, handed, handedAt, ready, ready-at}
 use Rattle.runs.proofs.Posted.{open-posted, after-one}
 
 -- ---- a desk of one caller
@@ -56,8 +55,9 @@ dropped m t = record { count = m .count; opened = m .opened - 1; jobs = assign t
 abbrev added : Solo → Job → Solo
 added m j = record { count = m .count + 1; opened = suc (m .opened); jobs = assign (m .count) (some j) (m .jobs) }
 
-abbrev final : Job → Settled
-final j = settle (j .query) (times (halve (j .query)) due (j .bracket))
+-- what a collect of a job that is ready hands out
+abbrev final : Job → Answer
+final j = handed (j .query) (j .number) (times (halve (j .query)) (j .number) (j .bracket))
 
 abbrev ruled : Solo → Ruling → Reply
 ruled m (against n) = record { next = m; answer = Refused n }
@@ -68,10 +68,10 @@ at-job m t f none = record { next = m; answer = Refused 11 }
 at-job m t f (some j) = record { next = dropped m t; answer = f j }
 
 solo : Solo → Call → Reply
-solo m (post c k p y) = ruled m (ruling c k p y (m .count) (m .opened))
+solo m (post c k p y number) = ruled m (ruling c k p y number (m .count) (m .opened))
 solo m turn = record { next = m; answer = Idle }
 solo m (peek c t) = record { next = m; answer = Idle }
-solo m (collect c t) = at-job m t (λ j. State (final j)) (m .jobs t)
+solo m (collect c t) = at-job m t final (m .jobs t)
 solo m (withdraw c t) = at-job m t (λ j. Freed) (m .jobs t)
 
 solos : Solo → List Call → List Entry
@@ -91,10 +91,10 @@ record Like (c : ℕ) (d : Desk) (m : Solo) : Type 0 where
 
 -- and each job of the one is in a row of the other
 abbrev Tracks : ℕ → Desk → Solo → Type 0
-Tracks c d m = (t : ℕ) (j : Job) → m .jobs t ≡ some j → (a : ℕ) × Tracked c t j a d
+Tracks c d m = (t : ℕ) (j : Job) → m .jobs t ≡ some j → (a : ℕ) × Tracked c t j 0 a d
 
 tracks-step : (c : ℕ) (d : Desk) (m : Solo) (x : Call) → Good d → Tracks c d m → Tracks c (step d x .desk) m
-tracks-step c d m x g o t j e = let w = o t j e in (aged x (w .0), tracked-step c t j (w .0) d x g (w .1))
+tracks-step c d m x g o t j e = let w = o t j e in (aged x (w .0), tracked-step c t j 0 (w .0) d x g (w .1))
 
 -- ---- others' calls, turns and peeks
 
@@ -116,10 +116,10 @@ like-effect c d e x m g n o (idled h) = o
 like-effect c d e x m g n o (turned h) =
     let j = (d .pointer + next d) % 32 in
     like-put c d m j (halvedRow (row d j)) (d .counts) (past j) g (omega arith) o refl (sym (of-halved c (row d j))) (λ t. sym (held-halved c (row d j) t))
-like-effect c d e x m g n o (seated c′ k p y j w r) =
+like-effect c d e x m g n o (seated c′ k p y number j w r) =
     let i = lowest vacant d in
-    let l = seat-free d g c′ k p y j w in
-    let v = fresh c′ (counted d c′) (j .query) (j .bracket) in
+    let l = seat-free d g c′ k p y number j w in
+    let v = fresh c′ (counted d c′) (j .query) (j .number) (j .bracket) in
     let a = of-empty c (row d i) (vacant-is (row d i) (lowest-true vacant d l)) in
     let b = of-other c v (λ q. eqb-false c′ c n q) in
     like-put c d m i v (set (d .counts) c′ (counted d c′ + 1)) (d .pointer) g l o (getD-set-other (d .counts) c′ c (counted d c′ + 1) 0 (λ q. eqb-false c′ c n (sym q)))
@@ -145,9 +145,9 @@ goes c d m x o r e f a l t = record {
 }
 
 -- a post of the caller
-like-added : (c k : ℕ) (p y : Float) (d : Desk) (m : Solo) (j : Job) → Good d → Like c d m → Granted c k p y (counted d c) (tally (ofCaller c) d) j → Like c (seats d c j) (added m j)
-like-added c k p y d m j g o w = record {
-  counts = getD-set-same (d .counts) c (counted d c + 1) 0 (counts-wide d g c k p y j w) ∙ ap (λ (n : ℕ). n + 1) (o .counts);
+like-added : (c k : ℕ) (p y : Float) (number : ℕ) (d : Desk) (m : Solo) (j : Job) → Good d → Like c d m → Granted c k p y number (counted d c) (tally (ofCaller c) d) j → Like c (seats d c j) (added m j)
+like-added c k p y number d m j g o w = record {
+  counts = getD-set-same (d .counts) c (counted d c + 1) 0 (counts-wide d g c k p y number j w) ∙ ap (λ (n : ℕ). n + 1) (o .counts);
   opens = tally-more (ofCaller c) d i v (set (d .counts) c (counted d c + 1)) (d .pointer) (g .long) l (of-empty c (row d i) empty) (is-of c v refl refl) ∙ ap suc (o .opens);
   here = λ t. here t (eqb t (m .count)) refl;
 }
@@ -156,10 +156,10 @@ like-added c k p y d m j g o w = record {
     i = lowest vacant d
 
     v : Row
-    v = fresh c (counted d c) (j .query) (j .bracket)
+    v = fresh c (counted d c) (j .query) (j .number) (j .bracket)
 
     l : i < 32
-    l = seat-free d g c k p y j w
+    l = seat-free d g c k p y number j w
 
     empty : row d i .filled ≡ false
     empty = vacant-is (row d i) (lowest-true vacant d l)
@@ -173,32 +173,32 @@ like-added c k p y d m j g o w = record {
         let ne : held c t v ≡ false = not-some (held c t v) (λ h. eqb-false t (m .count) q (sym (held-fresh c t c (counted d c) j h .1) ∙ o .counts)) in
         tally-same (held c t) d i v (set (d .counts) c (counted d c + 1)) (d .pointer) (g .long) l (held-empty c (row d i) t empty ∙ sym ne) ∙ o .here t
 
-tracks-added : (c k : ℕ) (p y : Float) (d e : Desk) (m : Solo) (j : Job) → Good d → Like c d m → Granted c k p y (counted d c) (tally (ofCaller c) d) j → e ≡ seats d c j
+tracks-added : (c k : ℕ) (p y : Float) (number : ℕ) (d e : Desk) (m : Solo) (j : Job) → Good d → Like c d m → Granted c k p y number (counted d c) (tally (ofCaller c) d) j → e ≡ seats d c j
     → Tracks c e m → Tracks c e (added m j)
-tracks-added c k p y d e m j g o w s h t i q = go (eqb t (m .count)) refl q
+tracks-added c k p y number d e m j g o w s h t i q = go (eqb t (m .count)) refl q
   where
-    go : (b : Bool) → eqb t (m .count) ≡ b → cond b (some j) (m .jobs t) ≡ some i → (a : ℕ) × Tracked c t i a e
+    go : (b : Bool) → eqb t (m .count) ≡ b → cond b (some j) (m .jobs t) ≡ some i → (a : ℕ) × Tracked c t i 0 a e
     go true n f =
         let same : j ≡ i = cc in (
           0,
-          rw s (subst (λ (z : Job). Tracked c t z 0 (seats d c j)) same (tracked-fresh d g c k p y t j w (o .counts ∙ sym (eqb-true t (m .count) n)))),
+          rw s (subst (λ (z : Job). Tracked c t z 0 0 (seats d c j)) same (tracked-fresh d g c k p y number t j w (o .counts ∙ sym (eqb-true t (m .count) n)))),
         )
     go false n f = h t i f
 
-own-post : (c k : ℕ) (p y : Float) (d : Desk) (m : Solo) → Good d → Like c d m → Tracks c d m → Goes c d m (post c k p y)
+own-post : (c k : ℕ) (p y : Float) (number : ℕ) (d : Desk) (m : Solo) → Good d → Like c d m → Tracks c d m → Goes c d m (post c k p y number)
 unfolding solo
-own-post c k p y d m g o h = go (rulingAt d c k p y) refl
+own-post c k p y number d m g o h = go (rulingAt d c k p y number) refl
   where
-    by : (r : Ruling) → rulingAt d c k p y ≡ r → step d (post c k p y) ≡ onRuling d c r → solo m (post c k p y) ≡ ruled m r → Goes c d m (post c k p y)
-    by (against n) e s u = goes c d m (post c k p y) (refuse n d) (ruled m (against n)) s u refl o (tracks-step c d m (post c k p y) g h)
+    by : (r : Ruling) → rulingAt d c k p y number ≡ r → step d (post c k p y number) ≡ onRuling d c r → solo m (post c k p y number) ≡ ruled m r → Goes c d m (post c k p y number)
+    by (against n) e s u = goes c d m (post c k p y number) (refuse n d) (ruled m (against n)) s u refl o (tracks-step c d m (post c k p y number) g h)
     by (given j) e s u =
-        let w = ruling-given c k p y (counted d c) (tally (ofCaller c) d) j e in
-        goes c d m (post c k p y) (onRuling d c (given j)) (ruled m (given j)) s u (ap {B = Answer} Ticket (o .counts)) (like-added c k p y d m j g o w)
-        (tracks-added c k p y d (step d (post c k p y) .desk) m j g o w (ap (λ (z : Outcome). z .desk) s) (tracks-step c d m (post c k p y) g h))
+        let w = ruling-given c k p y number (counted d c) (tally (ofCaller c) d) j e in
+        goes c d m (post c k p y number) (onRuling d c (given j)) (ruled m (given j)) s u (ap {B = Answer} Ticket (o .counts)) (like-added c k p y number d m j g o w)
+        (tracks-added c k p y number d (step d (post c k p y number) .desk) m j g o w (ap (λ (z : Outcome). z .desk) s) (tracks-step c d m (post c k p y number) g h))
 
-    go : (r : Ruling) → rulingAt d c k p y ≡ r → Goes c d m (post c k p y)
+    go : (r : Ruling) → rulingAt d c k p y number ≡ r → Goes c d m (post c k p y number)
     go r e =
-        by r e (post-ruled d c k p y (good-sound d g) ∙ ap (λ (z : Ruling). onRuling d c z) e)
+        by r e (post-ruled d c k p y number (good-sound d g) ∙ ap (λ (z : Ruling). onRuling d c z) e)
         (ap (λ (z : Ruling). ruled m z) (rw (o .counts, o .opens) at e))
 
 -- a collect or a withdraw of the caller frees the row
@@ -221,7 +221,7 @@ like-dropped c t i d m g o s = record {
 tracks-dropped : (c t : ℕ) (e : Desk) (m : Solo) → Tracks c e m → Tracks c e (dropped m t)
 tracks-dropped c t e m h u i q = go (eqb u t) refl q
   where
-    go : (b : Bool) → eqb u t ≡ b → cond b none (m .jobs u) ≡ some i → (a : ℕ) × Tracked c u i a e
+    go : (b : Bool) → eqb u t ≡ b → cond b none (m .jobs u) ≡ some i → (a : ℕ) × Tracked c u i 0 a e
     go true n f = absurd (let z : _≡_ {A = ℕ} 0 1 = cc in omega arith)
     go false n f = h u i f
 
@@ -253,8 +253,16 @@ record Waited (c t : ℕ) (d : Desk) : Type 0 where
   p : Float
   y : Float
   age : ℕ
-  long : enough ≤ age
-  follows : Followed c t kind p y age d
+  number : ℕ
+  long : enoughFor number ≤ age
+  follows : Followed c t kind p y number age d
+
+-- a row of the job's query and number, its bracket halved that often, hands out just that
+handed-final : (d : Desk) (i : ℕ) (j : Job) → queryOf (row d i) ≡ j .query → row d i .number ≡ j .number
+    → bracketOf (row d i) ≡ times (halve (j .query)) (j .number) (j .bracket) → handedAt d i ≡ final j
+handed-final d i j q n b =
+    ap (λ (v : Query). handed v (row d i .number) (bracketOf (row d i))) q ∙ ap (λ (v : ℕ). handed (j .query) v (bracketOf (row d i))) n
+    ∙ ap (λ (v : Bracket). handed (j .query) (j .number) v) b
 
 own-collect : (c t : ℕ) (d : Desk) (m : Solo) → c < 8 → Good d → Like c d m → Tracks c d m → (OpenFor c t d → Waited c t d) → Goes c d m (collect c t)
 unfolding solo collectOf collectAt
@@ -265,20 +273,19 @@ own-collect c t d m l g o h w = go (m .jobs t) refl
 
     go : (b : Option Job) → m .jobs t ≡ b → Goes c d m (collect c t)
     go none e =
-        goes c d m (collect c t) (refuse 11 d) (at-job m t (λ j. State (final j)) none) (rw (not-open c t d g l (o .here t ∙ ap size e))) (rw e) refl o
+        goes c d m (collect c t) (refuse 11 d) (at-job m t final none) (rw (not-open c t d g l (o .here t ∙ ap size e))) (rw e) refl o
         (tracks-step c d m (collect c t) g h)
     go (some j) e =
         let s = found c t d (o .here t ∙ ap size e) in
         let open? : OpenFor c t d = (i, s .place, s .has) in
         let v = w open? in
-        let r = ready-at c t (v .kind) (v .p) (v .y) (v .age) d (v .follows) l open? (v .long) in
-        let z = ready c t (v .kind) (v .p) (v .y) (v .age) d (v .follows) i s (v .long) in
+        let r = ready-at c t (v .kind) (v .p) (v .y) (v .number) (v .age) d (v .follows) l open? (v .long) in
+        let z = ready c t (v .kind) (v .p) (v .y) (v .number) (v .age) d (v .follows) i s (v .long) in
         let f = h t j e .1 .fits i (s .place) (s .has) in
-        let full : row d i .halvings ≡ due = omega (arith, g .rows .each i (s .place) (held-is c (row d i) t (s .has) .0) .within) in
-        let b : bracketOf (row d i) ≡ times (halve (j .query)) due (j .bracket) = f .halvedTo ∙ ap (λ (n : ℕ). times (halve (j .query)) n (j .bracket)) full in
-        let same : settle (queryOf (row d i)) (bracketOf (row d i)) ≡ final j = ap (λ (q : Query). settle q (bracketOf (row d i))) (f .same) ∙ ap (λ (x : Bracket). settle (j .query) x) b in
-        goes c d m (collect c t) (answers (State (settle (queryOf (row d i)) (bracketOf (row d i)))) (emptied d i)) (at-job m t (λ j. State (final j)) (some j)) (r .1) (rw e)
-        (ap {B = Answer} State same) (like-dropped c t i d m g o s) (tracks-dropped c t (step d (collect c t) .desk) m (tracks-step c d m (collect c t) g h))
+        let full : f .more ≡ j .number = omega (arith, f .counts, f .number-posted, g .rows .each i (s .place) (held-is c (row d i) t (s .has) .0) .within) in
+        let b : bracketOf (row d i) ≡ times (halve (j .query)) (j .number) (j .bracket) = f .halvedTo ∙ ap (λ (n : ℕ). times (halve (j .query)) n (j .bracket)) full in
+        goes c d m (collect c t) (answers (handedAt d i) (emptied d i)) (at-job m t final (some j)) (r .1) (rw e)
+        (handed-final d i j (f .same) (f .number-posted) b) (like-dropped c t i d m g o s) (tracks-dropped c t (step d (collect c t) .desk) m (tracks-step c d m (collect c t) g h))
 
 -- ---- a whole run
 
@@ -297,15 +304,16 @@ waited c t run rest d e w o =
       kind = r .kind;
       p = r .p;
       y = r .y;
+      number = r .number;
       age = turns (r .since);
       long = w run rest t refl o′ r;
-      follows = subst (λ (v : Desk). Followed c t (r .kind) (r .p) (r .y) (turns (r .since)) v) (ap (λ (l : List Call). after l) (sym (r .posted .0)) ∙ e)
-          (followed c t (r .kind) (r .p) (r .y) (r .pre) (r .since) (r .posted .1));
+      follows = subst (λ (v : Desk). Followed c t (r .kind) (r .p) (r .y) (r .number) (turns (r .since)) v) (ap (λ (l : List Call). after l) (sym (r .posted .0)) ∙ e)
+          (followed c t (r .kind) (r .p) (r .y) (r .number) (r .pre) (r .since) (r .posted .1));
     }
 
 own : (c : ℕ) (run rest : List Call) (d : Desk) (m : Solo) (x : Call) → c < 8 → At-end c run d m → Patient c (run ++ x ∷ rest) → asks c x ≡ true → Goes c d m x
-own c run rest d m (post e k p y) l s w n =
-    subst (λ (v : ℕ). Goes c d m (post v k p y)) (sym (eqb-true e c n)) (own-post c k p y d m (s .good) (s .like) (s .tracks))
+own c run rest d m (post e k p y number) l s w n =
+    subst (λ (v : ℕ). Goes c d m (post v k p y number)) (sym (eqb-true e c n)) (own-post c k p y number d m (s .good) (s .like) (s .tracks))
 own c run rest d m turn l s w n = absurd (let z : _≡_ {A = ℕ} 0 1 = cc in omega arith)
 own c run rest d m (peek e t) l s w n = absurd (let z : _≡_ {A = ℕ} 0 1 = cc in omega arith)
 own c run rest d m (collect e t) l s w n =

@@ -17,7 +17,7 @@ numberOf (Answer.Ticket t) = 0
 numberOf Answer.Halved = 0
 numberOf Answer.Idle = 0
 numberOf (Answer.Shown n lo hi) = 0
-numberOf (Answer.State s) = 0
+numberOf (Answer.State s n lo hi) = 0
 numberOf Answer.Freed = 0
 
 abbrev pub isRefused : Answer → Bool
@@ -26,7 +26,7 @@ isRefused (Answer.Ticket t) = false
 isRefused Answer.Halved = false
 isRefused Answer.Idle = false
 isRefused (Answer.Shown n lo hi) = false
-isRefused (Answer.State s) = false
+isRefused (Answer.State s n lo hi) = false
 isRefused Answer.Freed = false
 
 -- a ticket or a number of halvings, an end of a bracket in K, a state with its mark
@@ -35,14 +35,15 @@ pub data Value : Type 0 where
   kelvin : Float → Value
   state : Settled → Value
 
--- a post hands out its ticket, a peek the halvings done, lo and hi, a collect the state; that a turn halved or idled is no value, and a withdraw and a refusal hand out nothing
+-- a post hands out its ticket, a peek the halvings done, lo and hi, a collect the state, the number posted for, lo and hi; that a turn halved or idled is no value,
+-- and a withdraw and a refusal hand out nothing
 abbrev pub valuesOf : Answer → List Value
 valuesOf (Answer.Refused n) = []
 valuesOf (Answer.Ticket t) = whole t ∷ []
 valuesOf Answer.Halved = []
 valuesOf Answer.Idle = []
 valuesOf (Answer.Shown n lo hi) = whole n ∷ kelvin lo ∷ kelvin hi ∷ []
-valuesOf (Answer.State s) = state s ∷ []
+valuesOf (Answer.State s n lo hi) = state s ∷ whole n ∷ kelvin lo ∷ kelvin hi ∷ []
 valuesOf Answer.Freed = []
 
 -- a call that answers the number n and hands out the values vs leaves the desk d

@@ -1,13 +1,13 @@
 -- The desk by its rules: for each call the answer and the desk that it leaves. Definitions only.
 -- Of the settling layer this knows only what it publishes: a query judged, one halving, the state at the end, and how a row names a phase.
 use Prim.Native.Nat.{ℕ, _+_, _%_}
-use mathlib.Core.Bool.{true, cond, _&&_}
+use mathlib.Core.Bool.{Bool, true, cond, _&&_}
 use lib.Dec.{ltb}
 use lib.ListN.{set, replicate}
 use lib.Ieee.{Float}
 use Rattle.ledger.specs.declared.Row.{Row}
 use Rattle.ledger.specs.declared.Desk.{Desk}
-use Rattle.ledger.specs.Rows.{due, most, blank, row, counted, held, ofCaller, vacant, unfinished, tally, onward, lowest, put, between, sound}
+use Rattle.ledger.specs.Rows.{most, blank, row, counted, held, ofCaller, vacant, unfinished, tally, onward, lowest, put, between, nameable, sound}
 use Rattle.brackets.specs.declared.Bracket.{Bracket}
 use Rattle.settle.specs.declared.Judged.{Judged}
 use Rattle.settle.specs.declared.Judged.the-variants as Judged
@@ -23,7 +23,7 @@ use Rattle.runs.specs.declared.Open.the-variants.{At, Closed}
 
 -- ---- a new desk
 
--- every row empty and every number 0
+-- every row empty and every number in it 0
 unfoldable pub newDesk : Desk
 newDesk = record { rows = replicate 32 blank; counts = replicate 8 0; pointer = 0 }
 
@@ -59,9 +59,9 @@ settle q b = settledOf (q .kind) (q .phase) (q .p) (q .y) (b .lo) (b .hi)
 
 -- ---- post
 
--- the row of a job just posted
-abbrev pub fresh : ℕ → ℕ → Query → Bracket → Row
-fresh c t q b =
+-- the row of a job just posted, for so many halvings
+abbrev pub fresh : ℕ → ℕ → Query → ℕ → Bracket → Row
+fresh c t q number b =
     record {
       filled = true;
       caller = c;
@@ -70,6 +70,7 @@ fresh c t q b =
       region = regionOf (q .phase);
       p = q .p;
       y = q .y;
+      number = number;
       halvings = 0;
       lo = b .lo;
       hi = b .hi;
@@ -86,14 +87,18 @@ admitted d r =
     (refuse 13 d)
 
 -- the ticket is the caller's own count
-unfoldable pub judgedPost : Desk → ℕ → ℕ → Float → Float → Judged → Outcome
-judgedPost d c kind p y (Judged.Refused n) = refuse n d
-judgedPost d c kind p y (Judged.Within phase lo hi) =
-    admitted d (fresh c (counted d c) (record { kind = kind; phase = phase; p = p; y = y }) (record { lo = lo; hi = hi }))
+unfoldable pub judgedPost : Desk → ℕ → ℕ → Float → Float → ℕ → Judged → Outcome
+judgedPost d c kind p y number (Judged.Refused n) = refuse n d
+judgedPost d c kind p y number (Judged.Within phase lo hi) =
+    admitted d (fresh c (counted d c) (record { kind = kind; phase = phase; p = p; y = y }) number (record { lo = lo; hi = hi }))
 
-unfoldable pub postOf : Desk → ℕ → ℕ → Float → Float → Outcome
-postOf d c kind p y =
-    cond (sound d) (cond (ltb c 8 && between 2 3 kind) (judgedPost d c kind p y (judgedOf kind p y)) (refuse 9 d)) (refuse 15 d)
+-- a caller, a kind and a number of halvings that a post may name; no value is looked at before they are found so
+unfoldable pub known : ℕ → ℕ → ℕ → Bool
+known c kind number = ltb c 8 && (between 2 3 kind && nameable number)
+
+unfoldable pub postOf : Desk → ℕ → ℕ → Float → Float → ℕ → Outcome
+postOf d c kind p y number =
+    cond (sound d) (cond (known c kind number) (judgedPost d c kind p y number (judgedOf kind p y)) (refuse 9 d)) (refuse 15 d)
 
 -- ---- turn
 
@@ -108,6 +113,7 @@ halvedRow r =
       region = r .region;
       p = r .p;
       y = r .y;
+      number = r .number;
       halvings = r .halvings + 1;
       lo = halve (queryOf r) (bracketOf r) .lo;
       hi = halve (queryOf r) (bracketOf r) .hi;
@@ -149,7 +155,9 @@ peekAt d (At i) = answers (Answer.Shown (row d i .halvings) (row d i .lo) (row d
 unfoldable pub collectAt : Desk → Open → Outcome
 collectAt d (Closed n) = refuse n d
 collectAt d (At i) =
-    cond (ltb (row d i .halvings) due) (refuse 12 d) (answers (Answer.State (settle (queryOf (row d i)) (bracketOf (row d i)))) (emptied d i))
+    cond (ltb (row d i .halvings) (row d i .number))
+    (refuse 12 d)
+    (answers (Answer.State (settle (queryOf (row d i)) (bracketOf (row d i))) (row d i .number) (row d i .lo) (row d i .hi)) (emptied d i))
 
 unfoldable pub withdrawAt : Desk → Open → Outcome
 withdrawAt d (Closed n) = refuse n d

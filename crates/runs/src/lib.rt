@@ -6,15 +6,24 @@ use ledger::Desk;
 use settle::Settled;
 
 // What a call answers: any of them a refusal number, a post a ticket, a turn that it halved or that
-// there was nothing to halve, a peek the halvings done and the bracket, a collect the state, a withdraw
-// that the row is free.
+// there was nothing to halve, a peek the halvings done and the bracket, a collect the state, the number of
+// halvings that were posted for and the bracket that they left, a withdraw that the row is free.
 pub enum Answer {
     Refused(u64),
     Ticket(u64),
     Halved,
     Idle,
-    Shown { halvings: u64, lo: f64, hi: f64 },
-    State(Settled),
+    Shown {
+        halvings: u64,
+        lo: f64,
+        hi: f64,
+    },
+    State {
+        settled: Settled,
+        number: u64,
+        lo: f64,
+        hi: f64,
+    },
     Freed,
 }
 

@@ -1,3 +1,4 @@
 pub mod Phases
+pub mod Ends
 pub mod Asked
 pub mod Only

@@ -41,9 +41,13 @@ judgedBy p (Side.Refused n) = Refused n
 unfoldable pub judgedOf : ℕ → Float → Float → Judged
 judgedOf kind p y = cond (postedOf kind) (judgedBy p (placePY (givenOf kind) p y)) (Refused 9)
 
+-- y(p,t) < y asked
+unfoldable pub belowOf : ℕ → Phase → Float → Float → Float → Bool
+belowOf kind phase p y t = lt (propertyAt (givenOf kind) phase p t) y
+
 -- mid = (lo + hi) / 2; if y(p,mid) < y asked, lo = mid, else hi = mid
 unfoldable pub halvedOf : ℕ → Phase → Float → Float → Float → Float → Bracket
-halvedOf kind phase p y lo hi = halfOf lo hi (lt (propertyAt (givenOf kind) phase p (middleOf lo hi)) y)
+halvedOf kind phase p y lo hi = halfOf lo hi (belowOf kind phase p y (middleOf lo hi))
 
 -- T = (lo + hi) / 2, with its state and mark
 unfoldable pub settledOf : ℕ → Phase → Float → Float → Float → Float → Settled

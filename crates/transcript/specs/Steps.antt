@@ -25,7 +25,7 @@ use Rattle.transcript.specs.Lines.{turnsLine, givenLine, badLine}
 
 -- the same call in the words of runs
 abbrev pub callOf : Call → Runs.Call
-callOf (Post caller kind p y) = Runs.post caller kind p y
+callOf (Post caller kind p y number) = Runs.post caller kind p y number
 callOf (Peek caller ticket) = Runs.peek caller ticket
 callOf (Collect caller ticket) = Runs.collect caller ticket
 callOf (Withdraw caller ticket) = Runs.withdraw caller ticket

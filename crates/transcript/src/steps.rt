@@ -21,7 +21,13 @@ fn asked(d: Desk, call: Call) -> Outcome
     ensures { λ r. ⌜ r ≡ outcomeOf d call ⌝ }
 {
     match call {
-        Call::Post { caller, kind, p, y } => desk::post(d, caller, kind, p, y),
+        Call::Post {
+            caller,
+            kind,
+            p,
+            y,
+            number,
+        } => desk::post(d, caller, kind, p, y, number),
         Call::Peek { caller, ticket } => desk::peek(d, caller, ticket),
         Call::Collect { caller, ticket } => desk::collect(d, caller, ticket),
         Call::Withdraw { caller, ticket } => desk::withdraw(d, caller, ticket),
@@ -47,16 +53,16 @@ pub fn play(rest: &[u8], number: u64, d: Desk, out: &mut [u8]) -> Step
             let answer = o.answer;
             let end = told(number, call, answer, out);
             let after = o.desk;
-            stepped(after, 40, end)
+            stepped(after, 48, end)
         }
         Deed::Turns(n) => {
             let t = turns(d, n);
             let end = turned(number, t.refusal, t.halved, t.idle, out);
             let after = t.desk;
-            stepped(after, 40, end)
+            stepped(after, 48, end)
         }
-        Deed::Given => stepped(desk_in(rest), 2672, opened(number, b"desk\n", out)),
-        Deed::Shown => stepped(d, 40, shown(number, d, out)),
+        Deed::Given => stepped(desk_in(rest), 2936, opened(number, b"desk\n", out)),
+        Deed::Shown => stepped(d, 48, shown(number, d, out)),
         Deed::Bad => stepped(d, rest.len(), opened(number, b"bad record\n", out)),
     }
 }

@@ -25,7 +25,7 @@ halved-more t (Ticket n) d = omega arith
 halved-more t Halved d = omega arith
 halved-more t Idle d = omega arith
 halved-more t (Shown n lo hi) d = omega arith
-halved-more t (State s) d = omega arith
+halved-more t (State s n lo hi) d = omega arith
 halved-more t Freed d = omega arith
 
 pub idle-more : (t : Turned) (a : Answer) (d : Desk) → afterTurn t a d .idle ≤ t .idle + 1
@@ -35,7 +35,7 @@ idle-more t (Ticket n) d = omega arith
 idle-more t Halved d = omega arith
 idle-more t Idle d = omega arith
 idle-more t (Shown n lo hi) d = omega arith
-idle-more t (State s) d = omega arith
+idle-more t (State s n lo hi) d = omega arith
 idle-more t Freed d = omega arith
 
 -- ---- the desk
@@ -48,7 +48,7 @@ desk-left t (Ticket n) d = refl
 desk-left t Halved d = refl
 desk-left t Idle d = refl
 desk-left t (Shown n lo hi) d = refl
-desk-left t (State s) d = refl
+desk-left t (State s n lo hi) d = refl
 desk-left t Freed d = refl
 
 -- the desk afterwards is the one that so many turns leave in a run of the desk's theorems

@@ -13,7 +13,7 @@ afterTurn t Answer.Halved d = record { refusal = t .refusal; halved = t .halved 
 afterTurn t Answer.Idle d = record { refusal = t .refusal; halved = t .halved; idle = t .idle + 1; desk = d }
 afterTurn t (Answer.Ticket n) d = record { refusal = t .refusal; halved = t .halved; idle = t .idle; desk = d }
 afterTurn t (Answer.Shown n lo hi) d = record { refusal = t .refusal; halved = t .halved; idle = t .idle; desk = d }
-afterTurn t (Answer.State s) d = record { refusal = t .refusal; halved = t .halved; idle = t .idle; desk = d }
+afterTurn t (Answer.State s n lo hi) d = record { refusal = t .refusal; halved = t .halved; idle = t .idle; desk = d }
 afterTurn t Answer.Freed d = record { refusal = t .refusal; halved = t .halved; idle = t .idle; desk = d }
 
 abbrev pub turnedOnce : Turned → Turned

@@ -32,7 +32,7 @@ impl Random {
         match self.below(4) {
             0 => self.bits(),
             1 => self.any().to_bits(),
-            2 => self.below(42) as u64,
+            2 => self.below(53) as u64,
             _ => 1 << self.below(64),
         }
     }

@@ -1,16 +1,16 @@
 -- `call_lines::answered` meets its contract, case by case. Assumes nothing.
 use Prim.Native.Nat.{ℕ}
-use mathlib.Core.Path.{_≡_, sym, ap, _∙_}
-use mathlib.Core.List.{List, [], _∷_}
+use mathlib.Core.Path.{_≡_, refl, sym, ap, _∙_}
+use mathlib.Core.List.{List, [], _∷_, _++_}
 use types.Run.{OneOf, miss}
 use denote.Enum.Declared.{tagOf}
-use Rattle.text.specs.Texts.{newline}
-use Rattle.text.proofs.Pieces.{said}
+use Rattle.text.specs.Texts.{decimalOf, valueOf, newline}
+use Rattle.text.proofs.Pieces.{said, reads}
 use Rattle.runs.proofs.Answer as AnswerT
 use Rattle.runs.specs.declared.Answer.{Answer}
 use Rattle.runs.specs.declared.Answer.the-variants.{Refused, Ticket, Halved, Idle, Shown, State, Freed}
 use Rattle.records.specs.declared.Call.{Call}
-use Rattle.call_lines.specs.Lines.{handedOf, answerOf}
+use Rattle.call_lines.specs.Lines.{stateColumns, handedOf, lineOf, answerOf}
 use Rattle.call_lines.proofs.Pieces.{of-ticket, of-bracket, of-state, of-halved, of-idle, of-freed}
 use borrow.Author.Needs.{needs}
 use Rattle.call_lines.proofs.answered.Statement.{statement}
@@ -26,7 +26,7 @@ no-more call (Ticket t) h = absurd (miss bare 1 tt h)
 no-more call Halved h = of-halved call
 no-more call Idle h = of-idle call
 no-more call (Shown n lo hi) h = absurd (miss bare 4 tt h)
-no-more call (State s) h = absurd (miss bare 5 tt h)
+no-more call (State s n lo hi) h = absurd (miss bare 5 tt h)
 no-more call Freed h = of-freed call
 
 enum-known-answer : tie.Need-enum-known-answer
@@ -44,8 +44,8 @@ ticket-requires c κs = search needs
 enum-known-answer-3 : tie.Need-enum-known-answer-3
 enum-known-answer-3 c = search needs
 
-bracket-requires : tie.Need-bracket-requires
-bracket-requires c κs = search needs
+peeked-requires : tie.Need-peeked-requires
+peeked-requires c κs = search needs
 
 enum-known-answer-4 : tie.Need-enum-known-answer-4
 enum-known-answer-4 c = search needs
@@ -82,7 +82,7 @@ same-length-3 c = search needs
 returns-3 : tie.Need-returns-3
 returns-3 c =
     let part = c .before .before in
-    said (of-bracket _ _ _ _ ∙ ap (answerOf _) (sym (part .before .before .before .answer3 .given .1))) (part .bracket .ensures)
+    said (of-bracket _ _ _ _ ∙ ap (answerOf _) (sym (part .before .before .before .answer3 .given .1))) (part .peeked .ensures)
 
 same-length-4 : tie.Need-same-length-4
 same-length-4 c = search needs
@@ -90,7 +90,11 @@ same-length-4 c = search needs
 returns-4 : tie.Need-returns-4
 returns-4 c =
     let part = c .before .before in
-    said (of-state _ _ ∙ ap (answerOf _) (sym (part .before .before .before .before .answer4 .given .1))) (part .collected .ensures)
+    let state = part .before .before .before .before .answer4 .given in
+    let held = state .0 in
+    let columns : List (List ℕ) = stateColumns (held .0 .single) ++ decimalOf (held .1 .0) ∷ valueOf (held .1 .1 .0) ∷ valueOf (held .1 .1 .1 .0) ∷ [] in
+    let line = reads {t = 48 ∷ lineOf columns} (part .collected .ensures) refl in
+    said (of-state _ _ _ _ _ ∙ ap (answerOf _) (sym (state .1))) line
 
 same-length-5 : tie.Need-same-length-5
 same-length-5 c = search needs
@@ -109,7 +113,7 @@ answered-spec =
     enum-known-answer-2
     ticket-requires
     enum-known-answer-3
-    bracket-requires
+    peeked-requires
     enum-known-answer-4
     collected-requires
     slice-aggregate-bytes

@@ -1,14 +1,8 @@
--- `call_lines::bracket` meets its contract: a zero, a number and two columns, one behind the other. Assumes nothing.
+-- `call_lines::bracket` meets its contract: a number and two columns, one behind the other. Assumes nothing.
 use Rattle.text.proofs.Pieces.{then}
 use borrow.Author.Needs.{needs}
 use Rattle.call_lines.proofs.bracket.Statement.{statement}
 use Rattle.call_lines.proofs.bracket.Tie as tie
-
-slice-aggregate-bytes : tie.Need-slice-aggregate-bytes
-slice-aggregate-bytes c = search needs
-
-bytes-requires : tie.Need-bytes-requires
-bytes-requires c κs = search needs
 
 decimal-requires : tie.Need-decimal-requires
 decimal-requires c κs = search needs
@@ -27,15 +21,12 @@ returns c =
     let hi = c .before .before in
     let lo = hi .before .before .before .before in
     let halvings = lo .before .before .before .before in
-    let none = halvings .before .before .before .before in
-    then (then (then (none .bytes .ensures) (halvings .decimal .ensures)) (lo .column .ensures)) (hi .column2 .ensures)
+    then (then (halvings .decimal .ensures) (lo .column .ensures)) (hi .column2 .ensures)
 
 pub bracket-spec : {M : Type 1} → statement M
 bracket-spec =
     tie.close
     (tie.spec
-    slice-aggregate-bytes
-    bytes-requires
     decimal-requires
     column-requires
     column-requires-2

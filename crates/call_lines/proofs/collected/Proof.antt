@@ -1,4 +1,4 @@
--- `call_lines::collected` meets its contract: a zero and ten columns, one behind the other. Assumes nothing.
+-- `call_lines::collected` meets its contract: a zero, ten columns, and a number with its bracket, one behind the other. Assumes nothing.
 use Prim.Native.Nat.{ℕ}
 use mathlib.Core.Path.{ap}
 use Rattle.text.specs.Texts.{blank, numberColumn}
@@ -50,9 +50,13 @@ column-requires-7 c κs = search needs
 column-requires-8 : tie.Need-column-requires-8
 column-requires-8 c κs = search needs
 
+bracket-requires : tie.Need-bracket-requires
+bracket-requires c κs = search needs
+
 returns : tie.Need-returns
 returns c =
-    let w = c .before .before in
+    let bracket = c .before .before in
+    let w = bracket .before .before .before .before in
     let cp = w .before .before .before .before in
     let s = cp .before .before .before .before in
     let h = s .before .before .before .before in
@@ -71,7 +75,8 @@ returns c =
     (said (ap (λ (n : ℕ). numberColumn n blank) (bit .bit .ensures)) (mark .decimal2 .ensures)) in
     let place = then (then front (p .column .ensures)) (t .column2 .ensures) in
     let energy = then (then (then place (v .column3 .ensures)) (u .column4 .ensures)) (h .column5 .ensures) in
-    reads (then (then (then energy (s .column6 .ensures)) (cp .column7 .ensures)) (w .column8 .ensures)) (of-columns _)
+    let state = then (then (then energy (s .column6 .ensures)) (cp .column7 .ensures)) (w .column8 .ensures) in
+    reads (then state (bracket .bracket .ensures)) (of-columns _ _ _ _)
 
 same-length : tie.Need-same-length
 same-length c = kept (returns c)
@@ -94,5 +99,6 @@ collected-spec =
     column-requires-6
     column-requires-7
     column-requires-8
+    bracket-requires
     same-length
     returns)

@@ -1,4 +1,4 @@
--- `desk_lines::row_line` meets its contract: nothing for an empty row, else eleven pieces, one behind the other. Assumes nothing.
+-- `desk_lines::row_line` meets its contract: nothing for an empty row, else twelve pieces, one behind the other. Assumes nothing.
 use mathlib.Core.Path.{_≡_}
 use mathlib.Core.Bool.{true, false, not}
 use mathlib.Core.List.{List, [], _∷_, _++_}
@@ -23,6 +23,7 @@ columns i r =
     ++ numberColumn (r .region) blank
     ++ floatColumn (r .p) blank
     ++ floatColumn (r .y) blank
+    ++ numberColumn (r .number) blank
     ++ numberColumn (r .halvings) blank
     ++ floatColumn (r .lo) blank
     ++ floatColumn (r .hi) newline
@@ -70,6 +71,9 @@ column-requires-2 c κs = search needs
 decimal-requires-6 : tie.Need-decimal-requires-6
 decimal-requires-6 c κs = search needs
 
+decimal-requires-7 : tie.Need-decimal-requires-7
+decimal-requires-7 c κs = search needs
+
 column-requires-3 : tie.Need-column-requires-3
 column-requires-3 c κs = search needs
 
@@ -82,20 +86,21 @@ returns-2 c =
     let hi = c .before .before in
     let lo = hi .before .before .before .before in
     let halvings = lo .before .before .before .before in
-    let y = halvings .before .before .before .before in
+    let number = halvings .before .before .before .before in
+    let y = number .before .before .before .before in
     let p = y .before .before .before .before in
     let region = p .before .before .before .before in
     let kind = region .before .before .before .before in
     let ticket = kind .before .before .before .before in
     let caller = ticket .before .before .before .before in
-    let number = caller .before .before .before .before in
-    let word = number .before .before .before .before in
+    let place = caller .before .before .before .before in
+    let word = place .before .before .before .before in
     let filled = word .before .before .before in
     let a = filled .before .before .before .args in
-    let holder = then (then (then (word .bytes .ensures) (number .decimal .ensures)) (caller .decimal2 .ensures)) (ticket .decimal3 .ensures) in
+    let holder = then (then (then (word .bytes .ensures) (place .decimal .ensures)) (caller .decimal2 .ensures)) (ticket .decimal3 .ensures) in
     let query = then (then (then (then holder (kind .decimal4 .ensures)) (region .decimal5 .ensures)) (p .column .ensures)) (y .column2 .ensures) in
     said (full (a .i) (a .r) (filled .if1 .left))
-    (then (then (then query (halvings .decimal6 .ensures)) (lo .column3 .ensures)) (hi .column4 .ensures))
+    (then (then (then (then query (number .decimal6 .ensures)) (halvings .decimal7 .ensures)) (lo .column3 .ensures)) (hi .column4 .ensures))
 
 same-length : tie.Need-same-length
 same-length c = kept (returns-2 c)
@@ -115,6 +120,7 @@ row-line-spec =
     column-requires
     column-requires-2
     decimal-requires-6
+    decimal-requires-7
     column-requires-3
     column-requires-4
     same-length

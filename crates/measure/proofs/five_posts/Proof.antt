@@ -17,6 +17,9 @@ loop-holds c = omega arith
 add-post : tie.Need-add-post Inv-loop μ-loop
 add-post c = omega arith
 
+add-post-2 : tie.Need-add-post-2 Inv-loop μ-loop
+add-post-2 c = omega arith
+
 post-requires : tie.Need-post-requires Inv-loop μ-loop
 post-requires c κs = search needs
 
@@ -36,4 +39,4 @@ returns : tie.Need-returns Inv-loop μ-loop
 returns c = search needs
 
 pub five-posts-spec : {M : Type 1} → statement M
-five-posts-spec = tie.close (tie.spec Inv-loop μ-loop loop-holds add-post post-requires add-j loop-less loop-again element-copy-out-result returns)
+five-posts-spec = tie.close (tie.spec Inv-loop μ-loop loop-holds add-post add-post-2 post-requires add-j loop-less loop-again element-copy-out-result returns)

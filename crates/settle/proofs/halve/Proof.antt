@@ -3,12 +3,12 @@ use mathlib.Core.Path.{_≡_, refl}
 use borrow.Author.Needs.{needs}
 use Rattle.brackets.specs.Brackets.{middleOf}
 use Rattle.workings.specs.Workings.{propertyAt}
-use Rattle.settle.specs.Settle.{givenOf, halvedOf}
+use Rattle.settle.specs.Settle.{givenOf, belowOf, halvedOf}
 use Rattle.settle.proofs.halve.Statement.{statement}
 use Rattle.settle.proofs.halve.Tie as tie
 
 returns : tie.Need-returns
-unfolding halvedOf
+unfolding halvedOf belowOf
 returns c =
     let property = c .before in
     let middle = property .before in

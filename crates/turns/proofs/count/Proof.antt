@@ -26,7 +26,7 @@ no-turn t (Ticket n) d h = refl
 no-turn t Halved d h = absurd (miss others 2 tt h)
 no-turn t Idle d h = absurd (miss others 3 tt h)
 no-turn t (Shown n lo hi) d h = refl
-no-turn t (State s) d h = refl
+no-turn t (State s n lo hi) d h = refl
 no-turn t Freed d h = refl
 
 enum-known-a : tie.Need-enum-known-a

@@ -1,25 +1,24 @@
 -- `desk::calls::post` meets its contract: a refusal for each test in its order, the refusal that judging the query gives, or what `admit` makes of the job. Assumes nothing.
 use borrow.Author.Needs.{needs}
 use mathlib.Core.Path.{_≡_, sym, _∙_}
-use mathlib.Core.Bool.{true, _&&_}
+use mathlib.Core.Bool.{true}
 use Prim.Native.Nat.{_<_}
-use borrow.Author.Tests.{not-true, not-false, ltb-true}
-use lib.Dec.{ltb}
-use Rattle.ledger.specs.Rows.{between, sound}
-use Rattle.ledger.proofs.Search.{and-true}
+use borrow.Author.Tests.{not-true, not-false}
+use Rattle.ledger.specs.Rows.{sound}
 use Rattle.ledger.proofs.Lists.{count-fits}
-use Rattle.runs.specs.Model.{postOf, judgedPost}
+use Rattle.runs.specs.Model.{known, postOf, judgedPost}
+use Rattle.runs.proofs.Posts.{known-is}
 use Rattle.desk.proofs.calls.post.Statement.{statement}
 use Rattle.desk.proofs.calls.post.Tie as tie
 
 sound-here : (c : tie.Else1) → sound (c .before .before .args .t1) ≡ true
 sound-here c = sym (c .before .is-sound .ensures) ∙ not-false _ (c .if1 .left)
 
-known-here : (c : tie.Else2) → (ltb (c .before .before .before .before .args .caller) 8 && between 2 3 (c .before .before .before .before .args .kind)) ≡ true
+known-here : (c : tie.Else2) → (let a = c .before .before .before .before .args in known (a .caller) (a .kind) (a .number)) ≡ true
 known-here c = sym (c .before .known .ensures) ∙ not-false _ (c .if2 .left)
 
 caller-known : (c : tie.Else2) → c .before .before .before .before .args .caller < 8
-caller-known c = ltb-true _ _ (and-true _ _ (known-here c) .0)
+caller-known c = known-is _ _ _ (known-here c) .who
 
 is-sound-requires : tie.Need-is-sound-requires
 is-sound-requires c κs = tt
@@ -65,24 +64,24 @@ region-requires c κs = tt
 admit-requires : tie.Need-admit-requires
 admit-requires c κs =
     let within = c .before .before .before in
-    let known = within .before .before .before in
-    (sound-here (known .before .before), caller-known known)
+    let named = within .before .before .before in
+    (sound-here (named .before .before), caller-known named)
 
 returns-3 : tie.Need-returns-3
 unfolding postOf judgedPost
 returns-3 c =
     let against = c .before .before in
     let judged = against .before .before in
-    let known = judged .before in
-    rw (sound-here (known .before .before), known-here known, ← judged .judge .ensures, against .j .given .1) (c .refused3 .ensures)
+    let named = judged .before in
+    rw (sound-here (named .before .before), known-here named, ← judged .judge .ensures, against .j .given .1) (c .refused3 .ensures)
 
 returns-4 : tie.Need-returns-4
 unfolding postOf judgedPost
 returns-4 c =
     let within = c .before .before .before .before in
     let judged = within .before .before in
-    let known = judged .before in
-    rw (sound-here (known .before .before), known-here known, ← judged .judge .ensures, within .j2 .given .1, ← c .before .region .ensures) (c .admit .ensures)
+    let named = judged .before in
+    rw (sound-here (named .before .before), known-here named, ← judged .judge .ensures, within .j2 .given .1, ← c .before .region .ensures) (c .admit .ensures)
 
 pub post-spec : {M : Type 1} → statement M
 post-spec =

@@ -1,4 +1,5 @@
 -- `ledger::look::meets` meets its contract: a case for each row that can be looked for, and in it the tests in their order. Assumes nothing.
+use mathlib.Core.Path.{refl}
 use borrow.Author.Needs.{needs}
 use borrow.Author.Tests.{eq-eqb, ne-eqb}
 use Rattle.ledger.specs.Rows.{vacant, unfinished, held}
@@ -13,7 +14,7 @@ enum-told-2 c = search needs
 
 returns : tie.Need-returns
 unfolding unfinished
-returns c = rw (c .before .before .enum-told2 .given .1, c .before .if1 .taken)
+returns c = rw (c .before .before .enum-told2 .given .1, c .before .if1 .taken) refl
 
 enum-known-w : tie.Need-enum-known-w
 enum-known-w c = search needs

@@ -17,7 +17,7 @@ unfolding sound
 returns-2 c = rw (le-leb _ _ (c .before .before .before .before .if1 .left), sym (c .before .counts-right .ensures) ∙ not-true _ (c .if2 .taken))
 
 rows-right-requires : tie.Need-rows-right-requires
-rows-right-requires c κs = tt
+rows-right-requires c κs = sym (c .before .counts-right .ensures) ∙ not-false _ (c .if2 .left)
 
 returns-3 : tie.Need-returns-3
 unfolding sound

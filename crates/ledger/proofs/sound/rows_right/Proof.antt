@@ -2,19 +2,19 @@
 use native.Mathlib.Omega.{arith}
 use borrow.Author.Needs.{needs}
 use mathlib.Core.Path.{sym, _∙_}
-use Prim.Native.Nat.{_-_}
+use Prim.Native.Nat.{_-_, suc-le-suc}
 use borrow.Author.Tests.{not-true}
 use Rattle.ledger.proofs.Tests.{told-right}
 use Rattle.ledger.proofs.Lists.{row-fits, count-fits, row-is}
-use Rattle.ledger.proofs.Pass.{places-fit, place-fits, place-bytes, place-in, place-to, seen-fits, Passed, passed-none, passed-empty, passed-filled, passed-all, wrong-row, fifth-row, ticket-again}
+use Rattle.ledger.proofs.Pass.{bytes-fit, Passed, passed-none, passed-empty, passed-filled, passed-all, wrong-row, fifth-row, ticket-again}
 use Rattle.ledger.proofs.sound.rows_right.Statement.{statement}
 use Rattle.ledger.proofs.sound.rows_right.Tie as tie
 
 abbrev Inv-loop : tie.InvT-loop
-Inv-loop d counts tickets₀ seen₀ i₀ tickets seen i = Passed d i tickets seen
+Inv-loop d counts tickets₀ next₀ i₀ tickets next i = Passed d i tickets next
 
 abbrev μ-loop : tie.MeasureT-loop
-μ-loop d counts tickets₀ seen₀ i₀ tickets seen i = 32 - i
+μ-loop d counts tickets₀ next₀ i₀ tickets next i = 32 - i
 
 loop-holds : tie.Need-loop-holds Inv-loop μ-loop
 loop-holds c = passed-none _
@@ -40,13 +40,13 @@ returns c =
     let h = within .loop-test .taken in
     let same = row-is (s .args .t1) _ (s .good .0) (l .loop .i) _ h in
     let wrong = sym (c .before .row-right .ensures) ∙ not-true _ (c .if2 .taken) in
-    sym (wrong-row (s .args .t1) (l .loop .i) (l .loop .tickets) (l .loop .seen) (l .loop .inv) h _ same (filled .if1 .taken) wrong)
+    sym (wrong-row (s .args .t1) (l .loop .i) (l .loop .tickets) (l .loop .next) (l .loop .inv) h _ same (filled .if1 .taken) wrong)
 
-mul-n : tie.Need-mul-n Inv-loop μ-loop
-mul-n c = count-fits _ (told-right _ _ _ (c .before .row-right .ensures) (c .if2 .left) .known)
+mul-place : tie.Need-mul-place Inv-loop μ-loop
+mul-place c = count-fits _ (told-right _ _ _ (c .before .row-right .ensures) (c .if2 .left) .known)
 
-array-read-n : tie.Need-array-read-n Inv-loop μ-loop
-array-read-n c = told-right _ _ _ (c .before .row-right .ensures) (c .if2 .left) .known
+array-read-place : tie.Need-array-read-place Inv-loop μ-loop
+array-read-place c = told-right _ _ _ (c .before .row-right .ensures) (c .if2 .left) .known
 
 returns-2 : tie.Need-returns-2 Inv-loop μ-loop
 returns-2 c =
@@ -58,63 +58,40 @@ returns-2 c =
     let h = within .loop-test .taken in
     let same = row-is (s .args .t1) _ (s .good .0) (l .loop .i) _ h in
     let known = told-right _ _ _ (right .before .row-right .ensures) (right .if2 .left) .known in
-    sym (fifth-row (s .args .t1) (l .loop .i) (l .loop .tickets) (l .loop .seen) (l .loop .inv) h _ same (filled .if1 .taken) known (c .if3 .taken))
-
-mul-noted : tie.Need-mul-noted Inv-loop μ-loop
-mul-noted c =
-    let right = c .before .before in
-    places-fit _ (told-right _ _ _ (right .before .row-right .ensures) (right .if2 .left) .known)
+    sym (fifth-row (s .args .t1) (l .loop .i) (l .loop .tickets) (l .loop .next) (l .loop .inv) h _ same (filled .if1 .taken) known (c .if3 .taken))
 
 noted-requires : tie.Need-noted-requires Inv-loop μ-loop
-noted-requires c κs =
-    let right = c .before .before in
-    place-to _ (told-right _ _ _ (right .before .row-right .ensures) (right .if2 .left) .known) _ (c .before .if3 .left)
+noted-requires c κs = let right = c .before .before in told-right _ _ _ (right .before .row-right .ensures) (right .if2 .left) .known
 
 returns-3 : tie.Need-returns-3 Inv-loop μ-loop
 returns-3 c =
-    let right = c .before .before .before .before in
+    let few = c .before .before .before in
+    let right = few .before in
     let filled = right .before .before .before in
     let within = filled .before .before in
     let l = within .before in
     let s = l .before .before in
     let h = within .loop-test .taken in
     let same = row-is (s .args .t1) _ (s .good .0) (l .loop .i) _ h in
-    let known = told-right _ _ _ (right .before .row-right .ensures) (right .if2 .left) .known in
-    sym (ticket-again (s .args .t1) (l .loop .i) (l .loop .tickets) (l .loop .seen) (l .loop .inv) h _ same (filled .if1 .taken) known _ (c .before .noted .ensures) (c .if4 .taken))
+    let told = told-right _ _ _ (right .before .row-right .ensures) (right .if2 .left) in
+    sym (ticket-again (s .args .t1) (l .loop .i) (l .loop .tickets) (l .loop .next) (l .loop .inv) h _ same (filled .if1 .taken) (s .pre) told (few .if3 .left) _ (c .before .noted .ensures) (c .if4 .taken))
 
 mul-tickets : tie.Need-mul-tickets Inv-loop μ-loop
-mul-tickets c =
-    let right = c .before .before .before .before in
-    places-fit _ (told-right _ _ _ (right .before .row-right .ensures) (right .if2 .left) .known)
-
-add-tickets : tie.Need-add-tickets Inv-loop μ-loop
-add-tickets c =
-    let few = c .before .before .before in
-    let right = few .before in
-    place-fits _ (told-right _ _ _ (right .before .row-right .ensures) (right .if2 .left) .known) _ (few .if3 .left)
-
-mul-tickets-2 : tie.Need-mul-tickets-2 Inv-loop μ-loop
-mul-tickets-2 c =
-    let few = c .before .before .before in
-    let right = few .before in
-    place-bytes _ (told-right _ _ _ (right .before .row-right .ensures) (right .if2 .left) .known) _ (few .if3 .left)
+mul-tickets c = bytes-fit _ (c .before .before .before .if3 .left)
 
 array-write-tickets : tie.Need-array-write-tickets Inv-loop μ-loop
-array-write-tickets c =
-    let few = c .before .before .before in
-    let right = few .before in
-    place-in _ (told-right _ _ _ (right .before .row-right .ensures) (right .if2 .left) .known) _ (few .if3 .left)
+array-write-tickets c = suc-le-suc (c .before .before .before .if3 .left)
 
-add-seen : tie.Need-add-seen Inv-loop μ-loop
-add-seen c = seen-fits _ (c .before .before .before .if3 .left)
+add-next : tie.Need-add-next Inv-loop μ-loop
+add-next c = let room = c .before .before .before .if3 .left in omega arith
 
-mul-seen : tie.Need-mul-seen Inv-loop μ-loop
-mul-seen c =
+mul-next : tie.Need-mul-next Inv-loop μ-loop
+mul-next c =
     let right = c .before .before .before .before in
     count-fits _ (told-right _ _ _ (right .before .row-right .ensures) (right .if2 .left) .known)
 
-array-write-seen : tie.Need-array-write-seen Inv-loop μ-loop
-array-write-seen c =
+array-write-next : tie.Need-array-write-next Inv-loop μ-loop
+array-write-next c =
     let right = c .before .before .before .before in
     told-right _ _ _ (right .before .row-right .ensures) (right .if2 .left) .known
 
@@ -132,7 +109,7 @@ loop-again c =
     let h = within .loop-test .taken in
     let same = row-is (s .args .t1) _ (s .good .0) (l .loop .i) _ h in
     let told = told-right _ _ _ (right .before .row-right .ensures) (right .if2 .left) in
-    passed-filled (s .args .t1) (l .loop .i) (l .loop .tickets) (l .loop .seen) (l .loop .inv) h _ same (filled .if1 .taken) told (few .if3 .left) _ (c .before .noted .ensures) (c .if4 .left)
+    passed-filled (s .args .t1) (l .loop .i) (l .loop .tickets) (l .loop .next) (l .loop .inv) h _ same (filled .if1 .taken) (s .pre) told (few .if3 .left) _ (c .before .noted .ensures) (c .if4 .left)
 
 loop-less-2 : tie.Need-loop-less-2 Inv-loop μ-loop
 loop-less-2 c = omega arith
@@ -143,7 +120,7 @@ loop-again-2 c =
     let s = l .before .before in
     let h = c .before .before .loop-test .taken in
     let same = row-is (s .args .t1) _ (s .good .0) (l .loop .i) _ h in
-    passed-empty (s .args .t1) (l .loop .i) (l .loop .tickets) (l .loop .seen) (l .loop .inv) h _ same (c .if1 .left)
+    passed-empty (s .args .t1) (l .loop .i) (l .loop .tickets) (l .loop .next) (l .loop .inv) h _ same (c .if1 .left)
 
 returns-4 : tie.Need-returns-4 Inv-loop μ-loop
 returns-4 c = let l = c .before in sym (passed-all _ _ _ _ (l .loop .inv) (c .loop-test .left))
@@ -160,19 +137,16 @@ rows-right-spec =
     add-i
     row-right-requires
     returns
-    mul-n
-    array-read-n
+    mul-place
+    array-read-place
     returns-2
-    mul-noted
     noted-requires
     returns-3
     mul-tickets
-    add-tickets
-    mul-tickets-2
     array-write-tickets
-    add-seen
-    mul-seen
-    array-write-seen
+    add-next
+    mul-next
+    array-write-next
     loop-less
     loop-again
     loop-less-2

@@ -4,6 +4,7 @@ use mathlib.Core.Bool.{false}
 use lib.Dec.{leb}
 use lib.ListN.{length}
 use borrow.Author.Tests.{eq-eqb, ne-eqb, le-leb, lt-leb}
+use Rattle.words.specs.Words.{wordOf}
 use Rattle.records.specs.Records.{recordBytes, deedOf}
 use borrow.Author.Needs.{needs}
 use Rattle.records.proofs.deeds.read.Statement.{statement}
@@ -47,18 +48,23 @@ word-requires-4 c κs = search needs
 word-requires-5 : tie.Need-word-requires-5
 word-requires-5 c κs = search needs
 
+word-requires-6 : tie.Need-word-requires-6
+word-requires-6 c κs = search needs
+
 plain-requires : tie.Need-plain-requires
 plain-requires c κs = search needs
 
 returns-4 : tie.Need-returns-4
 unfolding deedOf
 returns-4 c =
-    let c5 = c .before in
+    let c6 = c .before in
+    let c5 = c6 .before in
     let c4 = c5 .before in
     let c3 = c4 .before in
     let c2 = c3 .before in
     let other = c2 .before in
     let word = other .before in
+    let number : c6 .word6 .result ≡ wordOf (word .before .before .before .args .rest .now) 5 = c6 .word6 .ensures in
     simp (le-leb _ _ (word .before .if1 .left), ne-eqb _ _ (λ e. other .if2 .left (word .word .ensures ∙ e)))
     (cc)
 
@@ -75,5 +81,6 @@ read-spec =
     word-requires-3
     word-requires-4
     word-requires-5
+    word-requires-6
     plain-requires
     returns-4)

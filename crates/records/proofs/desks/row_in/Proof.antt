@@ -1,4 +1,4 @@
--- `records::desks::row_in` meets its contract: ten words, one behind the other. Assumes nothing.
+-- `records::desks::row_in` meets its contract: eleven words, one behind the other. Assumes nothing.
 use borrow.Author.Needs.{needs}
 use Rattle.records.specs.Records.{rowIn}
 use Rattle.records.proofs.desks.row_in.Statement.{statement}
@@ -64,14 +64,20 @@ add-word-8 c = search needs
 word-requires-9 : tie.Need-word-requires-9
 word-requires-9 c κs = search needs
 
-float-of-requires-3 : tie.Need-float-of-requires-3
-float-of-requires-3 c κs = search needs
-
 add-word-9 : tie.Need-add-word-9
 add-word-9 c = search needs
 
 word-requires-10 : tie.Need-word-requires-10
 word-requires-10 c κs = search needs
+
+float-of-requires-3 : tie.Need-float-of-requires-3
+float-of-requires-3 c κs = search needs
+
+add-word-10 : tie.Need-add-word-10
+add-word-10 c = search needs
+
+word-requires-11 : tie.Need-word-requires-11
+word-requires-11 c κs = search needs
 
 float-of-requires-4 : tie.Need-float-of-requires-4
 float-of-requires-4 c κs = search needs
@@ -104,8 +110,10 @@ row-in-spec =
     word-requires-8
     add-word-8
     word-requires-9
-    float-of-requires-3
     add-word-9
     word-requires-10
+    float-of-requires-3
+    add-word-10
+    word-requires-11
     float-of-requires-4
     returns)
