@@ -277,16 +277,14 @@ static inline struct answer refused(int n) { return (struct answer){.refusal = n
 
 static inline int verified(double h, double asked) { return fabs(h - asked) <= 0.08; }
 
-static inline struct answer liquid(double p, double h)
+static inline struct answer liquid(double p, double h, double t)
 {
-    double t = t1_ph(p, h);
     struct state a = state1(p, t);
     return (struct answer){0, 1, verified(a.h, h), p, t, 0, a};
 }
 
-static inline struct answer vapour(double p, double h)
+static inline struct answer vapour(double p, double h, double t)
 {
-    double t = t2_ph(p, h);
     struct state a = state2(p, t);
     return (struct answer){0, 2, verified(a.h, h), p, t, 0, a};
 }
@@ -309,12 +307,16 @@ static struct answer from_ph(double p, double h)
     if (h < h1(p, 273.15) || h2(p, 1073.15) < h) return refused(6);
     if (p <= 16.529164252604478) {
         double t = ts(p);
-        if (h < h1(p, t)) return liquid(p, h);
+        if (h < h1(p, t)) {
+            double l = t1_ph(p, h);
+            return liquid(p, h, l > t ? t : l);
+        }
         if (h <= h2(p, t)) return wet(p, h, t);
-        return vapour(p, h);
+        double v = t2_ph(p, h);
+        return vapour(p, h, v < t ? t : v);
     }
-    if (h <= h1(p, 623.15)) return liquid(p, h);
-    if (h >= h2(p, t_b23(p))) return vapour(p, h);
+    if (h <= h1(p, 623.15)) return liquid(p, h, t1_ph(p, h));
+    if (h >= h2(p, t_b23(p))) return vapour(p, h, t2_ph(p, h));
     return refused(5);
 }
 

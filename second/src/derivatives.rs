@@ -209,8 +209,9 @@ impl VolumeAndTemperature {
 #[cfg(test)]
 mod tests {
     use super::*;
-    use crate::basic::Properties;
+    use crate::basic::{Properties, Region};
     use crate::refusals::NOT_FINITE;
+    use crate::saturation::saturation_temperature;
 
     /// Regions 1 and 2, and region 5 at low and at high pressures.
     const POINTS: [(f64, f64); 7] = [
@@ -325,6 +326,21 @@ mod tests {
         for (p, t) in DENSE_POINTS {
             let slope = quotient(1, p, t, [5, 2, 1]).unwrap();
             assert!((slope / state_at(p, t).properties.cp - 1.0).abs() < 1e-9, "{p} {t}");
+        }
+    }
+
+    /// There cp is the slope of the enthalpy, bit for bit.
+    #[test]
+    fn the_derivative_of_a_pulled_state_is_taken_on_the_saturation_line() {
+        for (kind, first, second, region) in [
+            (2, 1.0, 762.68, Region::One),
+            (3, 10.0, 5.6159, Region::Two),
+            (4, 2777.12, 6.585, Region::Two),
+        ] {
+            let Ok(Answer::Single { state, .. }) = answer(kind, first, second) else { panic!() };
+            let ts = saturation_temperature(state.p);
+            let cp = Point::new(region, state.p, ts).cp();
+            assert_eq!(quotient(kind, first, second, [5, 2, 1]), Ok(cp));
         }
     }
 

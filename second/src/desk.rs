@@ -290,6 +290,7 @@ pub fn bracket(region: Region, p: f64) -> (f64, f64) {
 #[cfg(test)]
 mod tests {
     use super::*;
+    use crate::answers::{answer, Answer};
     use crate::refusals::{NOT_FINITE, OUT_OF_RANGE, PRESSURE, REGION_3};
 
     fn with_turns(desk: &mut Desk, turns: usize) {
@@ -347,6 +348,30 @@ mod tests {
             assert_eq!((halvings, collected.number), (number, number));
             assert_eq!((collected.lo, collected.hi), (lo, hi));
             assert_eq!(collected.state.t, (lo + hi) / 2.0);
+        }
+    }
+
+    /// Its bracket ends at Ts(p), so that no halving goes past the line and nothing is pulled,
+    /// where the direct answer to the same query lies on the line.
+    #[test]
+    fn a_state_next_to_saturation_is_that_of_its_halvings() {
+        for (kind, p, y, side) in [
+            (2, 1.0, 762.68, -1.0),
+            (3, 10.0, 3.3602, -1.0),
+            (2, 1.0, 2777.12, 1.0),
+            (3, 0.01, 8.1489, 1.0),
+        ] {
+            let ts = saturation_temperature(p);
+            let Ok(Answer::Single { state, .. }) = answer(kind, p, y) else { panic!() };
+            assert_eq!(state.t, ts);
+            let mut desk = Desk::new();
+            desk.post(1, kind, p, y, 50).unwrap();
+            with_turns(&mut desk, 50);
+            let Collected { state, verified, .. } = desk.collect(1, 0).unwrap();
+            let off = side * (state.t - ts);
+            assert!(verified && off > 1e-5 && off < 0.03, "{kind} {p} {y}: {off}");
+            let back = if kind == 2 { state.properties.h } else { state.properties.s };
+            assert!((back - y).abs() < 1e-10, "{kind} {p} {y}: {back}");
         }
     }
 

@@ -4,6 +4,7 @@
 mod damage;
 mod dense;
 mod hot;
+mod near;
 mod numbers;
 mod pairs;
 mod papers;
@@ -34,7 +35,8 @@ pub enum Manner {
     Oversized,
     /// Bytes without any meaning.
     Random,
-    /// Rows in one region and next to it, for `regions`, `answers` and `quotients`.
+    /// Rows in one region and next to it, or near the saturation line, for `regions`,
+    /// `answers` and `quotients`.
     About(Area),
     /// One of the two runs of a pair, in which one model does the same; for `replay` alone.
     Pair(Side),
@@ -54,6 +56,7 @@ impl Manner {
             "random" => Some(Manner::Random),
             "dense" if reads_queries(program) => Some(Manner::About(Area::Dense)),
             "hot" if reads_queries(program) => Some(Manner::About(Area::Hot)),
+            "near" if reads_queries(program) => Some(Manner::About(Area::Near)),
             "one" if program == Program::Replay => Some(Manner::Pair(Side::One)),
             "other" if program == Program::Replay => Some(Manner::Pair(Side::Other)),
             "tour" if program == Program::Replay => Some(Manner::Tour),
@@ -180,8 +183,8 @@ mod tests {
     }
 
     #[test]
-    fn sheets_about_a_region_are_for_programs_that_answer_queries() {
-        for (name, area) in [("dense", Area::Dense), ("hot", Area::Hot)] {
+    fn sheets_about_an_area_are_for_programs_that_answer_queries() {
+        for (name, area) in [("dense", Area::Dense), ("hot", Area::Hot), ("near", Area::Near)] {
             let named = |program| Manner::named(name, program);
             assert_eq!(named(Program::Answers), Some(Manner::About(area)));
             assert!([Program::Replay, Program::Arithmetic, Program::Saturation, Program::Written]

@@ -3,10 +3,12 @@
 //!
 //!     second inputs NAME SEED COUNT [MANNER] > file
 //!     second outputs NAME < file
+//!     second saturated < file
 //!
 //! NAME is a program's. MANNER is whole (if none is given), damaged, empty, cut,
-//! oversized or random; of regions, answers and quotients also dense or hot; of replay
-//! also one or other, the two runs of a pair, or tour.
+//! oversized or random; of regions, answers and quotients also dense, hot or near; of
+//! replay also one or other, the two runs of a pair, or tour. The last counts the rows of a
+//! sheet that are answered in one phase at Ts(p).
 
 // Printed decimals stay as they are printed.
 #![allow(clippy::approx_constant, clippy::excessive_precision)]
@@ -34,9 +36,10 @@ use std::process::ExitCode;
 
 const USAGE: &str = "usage: second inputs NAME SEED COUNT [MANNER]
        second outputs NAME
+       second saturated
 names: arithmetic check_values saturation regions answers quotients written desk_run replay plant
 manners: whole damaged empty cut oversized random;
-         of regions, answers, quotients also dense hot; of replay also one other tour";
+         of regions, answers, quotients also dense hot near; of replay also one other tour";
 
 /// The programs that are compared, by the names they are built under.
 #[derive(Clone, Copy, PartialEq, Eq)]
@@ -100,6 +103,10 @@ fn answer(words: &[&str]) -> Option<io::Result<Vec<u8>>> {
             let program = Program::named(name)?;
             let input = if program.reads_input() { standard_input() } else { Ok(Vec::new()) };
             Some(input.map(|input| outputs::bytes(program, &input)))
+        }
+        ["saturated"] => {
+            let count = |input: Vec<u8>| format!("{}\n", outputs::saturated(&input)).into_bytes();
+            Some(standard_input().map(count))
         }
         _ => None,
     }

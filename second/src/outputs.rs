@@ -11,6 +11,7 @@ mod written;
 
 use crate::Program;
 
+pub use listings::saturated;
 pub use replay::MOST_TURNS;
 pub use saturation::MOST_TEMPERATURES;
 

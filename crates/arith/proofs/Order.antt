@@ -1,6 +1,6 @@
--- How the comparisons of f64 go together, for all values: infinities, zeros of either sign and NaN included. What is below is at most, and what is at most is
--- not above. Of two values that are no NaN, `<` one way round is the negation of `<=` the other way round, so one of the two holds. Where `<=` holds, neither
--- side is NaN, and it is transitive. Assumes nothing.
+-- How the comparisons of f64 go together, for all values: infinities, zeros of either sign and NaN included. What is below is at most, what is at most is not
+-- above, what is below is not at least, and nothing is below itself. Of two values that are no NaN, `<` one way round is the negation of `<=` the other way round,
+-- so one of the two holds. Where `<=` holds, neither side is NaN, and it is transitive. Assumes nothing.
 use mathlib.Core.Path.{_≡_, refl, sym, ap, _∙_}
 use mathlib.Core.Bool.{Bool, true, false, not, _&&_, _||_, cond, true≢false, false≢true, and-false, or-not-self, Bool·not-not}
 use Prim.Native.Nat.{ℕ, zero, suc, _+_, _*_, _≤_, _<_}
@@ -103,6 +103,20 @@ pub le-excludes-lt : (x y : Float) → le x y ≡ true → lt y x ≡ false
 le-excludes-lt x y h =
     let w = le-not-nan x y h in
     lt-is-not-le x y (w .0) (w .1) ∙ ap not h
+
+pub lt-excludes-le : (x y : Float) → lt x y ≡ true → le y x ≡ false
+lt-excludes-le x y h = go (le y x) refl
+  where
+    go : (b : Bool) → le y x ≡ b → b ≡ false
+    go true k = absurd (false≢true (sym (le-excludes-lt y x k) ∙ h))
+    go false k = refl
+
+pub lt-not-self : (x : Float) → lt x x ≡ false
+lt-not-self x = go (lt x x) refl
+  where
+    go : (b : Bool) → lt x x ≡ b → b ≡ false
+    go true h = sym h ∙ le-excludes-lt x x (lt-le x x h)
+    go false h = refl
 
 -- ---- `<=` is transitive
 

@@ -24,8 +24,8 @@ pub(crate) const P_MOST: f64 = 100.0;
 
 pub(crate) const P_MOST_5: f64 = 50.0;
 
-// Whether p is at most P = ps(623.15), which is worked out once and for all.
-pub(crate) fn saturates(p: f64) -> bool
+// Whether p in MPa is at most P = ps(623.15), which is worked out once and for all.
+pub fn saturates(p: f64) -> bool
     ensures { λ r. ⌜ r ≡ saturates p ⌝ }
 {
     p <= 16.529164252604478

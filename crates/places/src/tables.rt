@@ -1,6 +1,8 @@
-// The region tables (specs/Places.antt).
+// The region tables (specs/Places.antt), and how a query stands to the saturation line
+// (specs/Standing.antt).
 use crate::Place;
 use crate::Side;
+use crate::Standing;
 use crate::limits::P_HOUSE;
 use crate::limits::P_MOST;
 use crate::limits::P_MOST_5;
@@ -22,6 +24,8 @@ use workings::Given;
 use workings::property;
 ghost use mathlib.Core.Path.{_≡_};
 ghost use Rattle.places.specs.Places.{besideOf, aboveOf, tableOf, placePT, saturatedOf, denseOf, rangedOf, placePY};
+ghost use Rattle.places.specs.Standing.{besideLine, beyondLine, standingOf, standingPY, sideOf};
+ghost use Rattle.saturation_line.specs.Printed.{tsOf};
 
 // The equation at p up to 623.15 K: of region 1 from the saturation pressure on, of region 2 below it.
 fn beside(p: f64, saturated: f64) -> Place
@@ -81,40 +85,46 @@ pub fn place_pt(p: f64, t: f64) -> Place
 }
 
 // Up to P: liquid, wet or vapour, by the saturated states.
-fn saturated(given: Given, p: f64, y: f64) -> Side
-    ensures { λ r. ⌜ r ≡ saturatedOf given p y ⌝ }
+fn saturated(given: Given, p: f64, y: f64) -> Standing
+    ensures { λ r. ⌜ r ≡ besideLine (tsOf p) (saturatedOf given p y) ⌝ }
 {
     let t = ts(p);
     if y < property(given, Phase::Liquid, p, t) {
-        return Side::Phase(Phase::Liquid);
+        return Standing::Beside {
+            phase: Phase::Liquid,
+            saturated: t,
+        };
     }
     if y <= property(given, Phase::Vapour, p, t) {
-        return Side::Wet(t);
+        return Standing::Wet(t);
     }
-    Side::Phase(Phase::Vapour)
+    Standing::Beside {
+        phase: Phase::Vapour,
+        saturated: t,
+    }
 }
 
 // Above P: liquid, vapour, or region 3 between them.
-fn dense(given: Given, p: f64, y: f64) -> Side
-    ensures { λ r. ⌜ r ≡ denseOf given p y ⌝ }
+fn dense(given: Given, p: f64, y: f64) -> Standing
+    ensures { λ r. ⌜ r ≡ beyondLine (denseOf given p y) ⌝ }
 {
     if y <= property(given, Phase::Liquid, p, T623) {
-        return Side::Phase(Phase::Liquid);
+        return Standing::Beyond(Phase::Liquid);
     }
     if y >= property(given, Phase::Vapour, p, boundaries::t_b23(p)) {
-        return Side::Phase(Phase::Vapour);
+        return Standing::Beyond(Phase::Vapour);
     }
-    Side::Refused(5)
+    Standing::Refused(5)
 }
 
 // Within the range of y at p, by the way that p lies to P.
-fn ranged(given: Given, p: f64, y: f64) -> Side
-    ensures { λ r. ⌜ r ≡ rangedOf given p y ⌝ }
+fn ranged(given: Given, p: f64, y: f64) -> Standing
+    ensures { λ r. ⌜ r ≡ standingOf p (rangedOf given p y) ⌝ }
 {
     let least = property(given, Phase::Liquid, p, T273);
     let most = property(given, Phase::Vapour, p, T1073);
     if outside(least, most, y) {
-        return Side::Refused(6);
+        return Standing::Refused(6);
     }
     if saturates(p) {
         return saturated(given, p, y);
@@ -122,15 +132,37 @@ fn ranged(given: Given, p: f64, y: f64) -> Side
     dense(given, p, y)
 }
 
+// How p and an h or s stand to the saturation line, or the refusal.
+pub fn standing_py(given: Given, p: f64, y: f64) -> Standing
+    ensures { λ r. ⌜ r ≡ standingPY given p y ⌝ }
+{
+    if wild(p, y) {
+        return Standing::Refused(1);
+    }
+    if outside(P_TRIPLE, P_MOST, p) {
+        return Standing::Refused(2);
+    }
+    ranged(given, p, y)
+}
+
+// The place of a standing.
+fn side(standing: Standing) -> Side
+    ensures { λ r. ⌜ r ≡ sideOf standing ⌝ }
+{
+    match standing {
+        Standing::Beside {
+            phase,
+            saturated: _,
+        } => Side::Phase(phase),
+        Standing::Wet(t) => Side::Wet(t),
+        Standing::Beyond(phase) => Side::Phase(phase),
+        Standing::Refused(n) => Side::Refused(n),
+    }
+}
+
 // Where p and an h or s lie, or the refusal.
 pub fn place_py(given: Given, p: f64, y: f64) -> Side
     ensures { λ r. ⌜ r ≡ placePY given p y ⌝ }
 {
-    if wild(p, y) {
-        return Side::Refused(1);
-    }
-    if outside(P_TRIPLE, P_MOST, p) {
-        return Side::Refused(2);
-    }
-    ranged(given, p, y)
+    side(standing_py(given, p, y))
 }

@@ -2,3 +2,4 @@ pub mod Only
 pub mod Forward
 pub mod Carried
 pub mod Placed
+pub mod Sides

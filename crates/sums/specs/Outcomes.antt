@@ -2,7 +2,14 @@
 -- (h,s), which works a state to judge it, that state, with w squared yet and beside it the slopes that a derivative of it takes, so that nothing is summed twice.
 -- No promise of a public call cites this file. Definitions only.
 use Prim.Native.Nat.{ℕ}
+use mathlib.Core.Bool.{true, cond, _&&_}
 use lib.Ieee.{Float}
+use Rattle.equations.specs.declared.Phase.{Phase}
+use Rattle.saturation_line.specs.Printed.{tsOf}
+use Rattle.pull.specs.Pull.{inReach}
+use Rattle.places.specs.Places.{saturates, placePT}
+use Rattle.sums.specs.Queries.{isIn}
+use Rattle.sums.specs.declared.candidates.Trial.{Trial}
 use Rattle.workings.specs.Workings.{slopesAt}
 use Rattle.states.specs.Marks.{metAt, singleOf, markedOf, fullOf, handedOut}
 use Rattle.workings.specs.declared.Given.{Given}
@@ -40,6 +47,14 @@ abbrev pub markedIn : Given → Float → Found → Answer
 markedIn given y (Found.Single a) = Answer.Single (markedOf given (a .equation) (a .p) y (a .t))
 markedIn given y (Found.Wet a) = Answer.Wet a
 markedIn given y (Found.Refused n) = Answer.Refused n
+
+-- ---- where a candidate of (h,s) is judged, and whether the (p,T) table agrees or counts as agreeing
+
+abbrev pub ownTrial : Phase → Float → Float → Trial
+ownTrial phase p t = record { t = t; agrees = isIn phase (placePT p t) }
+
+unfoldable pub trialOf : Phase → Float → Float → Trial
+trialOf phase p t = cond (saturates p && inReach phase (tsOf p) t) (record { t = tsOf p; agrees = true }) (ownTrial phase p t)
 
 -- ---- a state as it was worked
 

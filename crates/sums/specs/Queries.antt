@@ -8,13 +8,15 @@ use Rattle.backward.specs.T1ph.{t1ph}
 use Rattle.backward.specs.T1ps.{t1ps}
 use Rattle.backward.specs.P1hs.{p1hs}
 use Rattle.backward.specs.Region2.{t2ph, t2ps, p2hs}
+use Rattle.saturation_line.specs.Printed.{tsOf}
 use Rattle.equations.specs.Equations.{isOf, equationOf}
 use Rattle.workings.specs.Workings.{stateAt, givenOf}
 use Rattle.states.specs.Marks.{bothNear, metAt, singleOf, markedOf, markedBothOf}
 use Rattle.states.specs.Mixing.{wetOf}
 use Rattle.workings.specs.declared.Given.{Given}
 use Rattle.workings.specs.declared.Given.the-variants.{Enthalpy, Entropy}
-use Rattle.places.specs.Places.{wild, pTriple, placePT, placePY}
+use Rattle.pull.specs.Pull.{pulledTo, inReach}
+use Rattle.places.specs.Places.{wild, pTriple, saturates, placePT, placePY}
 use Rattle.places.specs.declared.Place.{Place}
 use Rattle.places.specs.declared.Place.the-variants as Place
 use Rattle.places.specs.declared.Side.{Side}
@@ -33,14 +35,18 @@ placedPT p t (Place.Refused n) = Refused n
 unfoldable pub answerPT : Float → Float → Answer
 answerPT p t = placedPT p t (placePT p t)
 
--- ---- (p,h) and (p,s): in regions 1 and 2 T is the backward equation's, with no second look at the (p,T) table
+-- ---- (p,h) and (p,s): in regions 1 and 2 T is the backward equation's, kept on its side of the saturation line, with no second look at the (p,T) table
 
 unfoldable pub temperatureOf : Given → Phase → Float → Float → Float
 temperatureOf given Liquid p y = givenOf given (t1ph p y) (t1ps p y)
 temperatureOf given Vapour p y = givenOf given (t2ph p y) (t2ps p y)
 
+-- Up to P a T past Ts(p), in region 1 above it and in region 2 below it, becomes Ts(p).
+unfoldable pub keptBeside : Phase → Float → Float → Float
+keptBeside phase p t = cond (saturates p) (pulledTo phase (tsOf p) t) t
+
 abbrev pub placedPY : Given → Float → Float → Side → Answer
-placedPY given p y (Side.Phase phase) = Single (markedOf given (equationOf phase) p y (temperatureOf given phase p y))
+placedPY given p y (Side.Phase phase) = Single (markedOf given (equationOf phase) p y (keptBeside phase p (temperatureOf given phase p y)))
 placedPY given p y (Side.Wet t) = Wet (wetOf given p y t)
 placedPY given p y (Side.Refused n) = Refused n
 
@@ -66,21 +72,25 @@ candidateH = printed false 2 (less 1)
 abbrev pub candidateS : Float
 candidateS = printed false 5 (less 4)
 
--- the table agrees, and forward h and s are within 0.2 and 0.0005 of those asked
-unfoldable pub agrees : Phase → Float → Float → Float → Float → Bool
-agrees phase p t h s =
-    isIn phase (placePT p t) && bothNear candidateH candidateS (stateAt (equationOf phase) p t) h s
+-- the state at p and T, marked by both h and s; refused by 7 where forward h and s are not within 0.2 and 0.0005 of those asked
+unfoldable pub closeOf : Phase → Float → Float → Float → Float → Answer
+closeOf phase p t h s =
+    cond (bothNear candidateH candidateS (stateAt (equationOf phase) p t) h s) (Single (markedBothOf (equationOf phase) p t h s)) (Refused 7)
 
--- the state at p and T, verified by both h and s; refused by 7 where it does not agree
+-- the same where the table agrees too
 unfoldable pub agreedOf : Phase → Float → Float → Float → Float → Answer
-agreedOf phase p t h s = cond (agrees phase p t h s) (Single (markedBothOf (equationOf phase) p t h s)) (Refused 7)
+agreedOf phase p t h s = cond (isIn phase (placePT p t)) (closeOf phase p t h s) (Refused 7)
+
+-- Up to P a T past Ts(p) by at most 0.025 K is pulled to it, and the table counts as agreeing.
+unfoldable pub triedOf : Phase → Float → Float → Float → Float → Answer
+triedOf phase p t h s = cond (saturates p && inReach phase (tsOf p) t) (closeOf phase p (tsOf p) h s) (agreedOf phase p t h s)
 
 -- the candidate of a phase: p is not below 0.000611213, and T is that of T(p,h), whose subregion of 2 is chosen anew by p and h
 unfoldable pub candidateOf : Phase → Float → Float → Answer
 candidateOf phase h s =
     let p = pressureOf phase h s in
     let t = temperatureOf Enthalpy phase p h in
-    cond (le pTriple p) (agreedOf phase p t h s) (Refused 7)
+    cond (le pTriple p) (triedOf phase p t h s) (Refused 7)
 
 -- the first of two answers, unless it is refused
 abbrev pub firstOf : Answer → Answer → Answer

@@ -6,10 +6,11 @@ use equations::Equation;
 use equations::Phase;
 use equations::equation_of;
 use places::Place;
-use places::Side;
+use places::Standing;
 use places::place_pt;
-use places::place_py;
+use places::standing_py;
 use places::wild;
+use pull::pulled;
 use reply::Answer;
 use states::Full;
 use states::Wet;
@@ -111,14 +112,19 @@ pub(crate) fn temperature(given: Given, phase: Phase, p: f64, y: f64) -> f64
 pub(crate) fn of_py(given: Given, p: f64, y: f64) -> Found
     ensures { λ r. ⌜ r ≡ foundOf (answerPY given p y) ⌝ }
 {
-    match place_py(given, p, y) {
-        Side::Phase(phase) => {
+    match standing_py(given, p, y) {
+        Standing::Beside { phase, saturated } => {
+            let equation = equation_of(phase);
+            let t = pulled(phase, saturated, temperature(given, phase, p, y));
+            Found::Single(Spot { equation, p, t })
+        }
+        Standing::Wet(t) => Found::Wet(wet_at(given, p, y, t)),
+        Standing::Beyond(phase) => {
             let equation = equation_of(phase);
             let t = temperature(given, phase, p, y);
             Found::Single(Spot { equation, p, t })
         }
-        Side::Wet(t) => Found::Wet(wet_at(given, p, y, t)),
-        Side::Refused(n) => Found::Refused(n),
+        Standing::Refused(n) => Found::Refused(n),
     }
 }
 

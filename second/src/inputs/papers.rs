@@ -2,16 +2,19 @@
 
 use super::points::{any, ties, Query};
 use super::random::Random;
-use super::{dense, hot};
+use super::{dense, hot, near};
 use crate::sheets::{write, NOTE, ROWS, TRAILER};
 
-/// A region that has sheets of its own, whose queries lie in it and next to it.
+/// What has sheets of its own: a region, whose queries lie in it and next to it, or the
+/// saturation line, whose queries lie near it.
 #[derive(Clone, Copy, Debug, PartialEq, Eq)]
 pub enum Area {
     /// Region 3.
     Dense,
     /// Region 5.
     Hot,
+    /// The saturation line between regions 1 and 2.
+    Near,
 }
 
 impl Area {
@@ -19,6 +22,7 @@ impl Area {
         match self {
             Area::Dense => dense::ties(),
             Area::Hot => hot::ties(),
+            Area::Near => near::ties(),
         }
     }
 
@@ -27,6 +31,7 @@ impl Area {
         match self {
             Area::Dense => dense::any,
             Area::Hot => hot::any,
+            Area::Near => near::any,
         }
     }
 }
@@ -47,14 +52,14 @@ pub fn triples(seed: u64, count: usize) -> Vec<u8> {
     sheet(&note, &rows(&ties(), any, seed, count, count / 2, &mut random))
 }
 
-/// A sheet of `count` queries in a region and next to it, a quarter of them ties, without a
+/// A sheet of `count` queries in an area and next to it, a quarter of them ties, without a
 /// note.
 pub fn queries_about(area: Area, seed: u64, count: usize) -> Vec<u8> {
     let mut random = Random::new(seed);
     sheet(&[], &rows(&area.ties(), area.any(), seed, count, count / 4, &mut random))
 }
 
-/// A sheet of `count` queries in a region and next to it, half of them ties, whose note
+/// A sheet of `count` queries in an area and next to it, half of them ties, whose note
 /// holds 8 triples of property numbers: those of one z and x. Sixty-four consecutive seeds
 /// go through all.
 pub fn triples_about(area: Area, seed: u64, count: usize) -> Vec<u8> {
@@ -157,8 +162,8 @@ mod tests {
     }
 
     #[test]
-    fn sheets_about_a_region_go_through_all_ties_and_triples() {
-        for (area, count) in [(Area::Dense, 16), (Area::Hot, 8)] {
+    fn sheets_about_an_area_go_through_all_ties_and_triples() {
+        for (area, count) in [(Area::Dense, 16), (Area::Hot, 8), (Area::Near, 42)] {
             let (mut rows, mut triples) = (BTreeSet::new(), BTreeSet::new());
             for seed in 1..=64 {
                 let sheet = triples_about(area, seed, count);

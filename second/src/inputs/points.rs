@@ -2,7 +2,7 @@
 //! spread over the regions, and numbers that are no points at all.
 
 use super::random::Random;
-use crate::answers::{answer, Answer};
+use crate::answers::{answer_with, Answer, Past};
 use crate::backward::S_2BC;
 use crate::basic::{b23_pressure, b23_temperature, b2ab_enthalpy, b2bc_pressure, Point, Region};
 use crate::regions::{
@@ -172,7 +172,9 @@ fn spread(random: &mut Random) -> Query {
 }
 
 /// A query next to one with another region, mark or refusal, found by halving between two
-/// queries that differ in one number; the first of them if their outcomes are the same.
+/// queries that differ in one number; the first of them if their outcomes are the same. Next
+/// to the saturation line these are the outcomes of a program that pulls nothing to it; the
+/// queries of `near` are for those of one that does.
 fn changing(random: &mut Random) -> Query {
     let from = spread(random);
     let (kind, first, second) = from;
@@ -186,15 +188,23 @@ fn changing(random: &mut Random) -> Query {
         _ => py(random, kind),
     };
     if random.below(2) == 0 {
-        (kind, change(first, other_first, |x| outcome((kind, x, second)), random), second)
+        (
+            kind,
+            change(first, other_first, |x| outcome(Past::Kept, (kind, x, second)), random),
+            second,
+        )
     } else {
-        (kind, first, change(second, other_second, |y| outcome((kind, first, y)), random))
+        (
+            kind,
+            first,
+            change(second, other_second, |y| outcome(Past::Kept, (kind, first, y)), random),
+        )
     }
 }
 
 /// The refusal, or region and mark.
-fn outcome((kind, first, second): Query) -> (u8, u64, bool) {
-    match answer(kind, first, second) {
+fn outcome(past: Past, (kind, first, second): Query) -> (u8, u64, bool) {
+    match answer_with(past, kind, first, second) {
         Ok(Answer::Single { state, verified }) => (0, state.equation.region_number(), verified),
         Ok(Answer::Wet { verified, .. }) => (0, 4, verified),
         Err(refusal) => (refusal.0, 0, false),
@@ -358,7 +368,8 @@ fn state(random: &mut Random) -> (f64, f64) {
 /// The (p,T) of those queries that have a state in a region.
 #[cfg(test)]
 pub fn in_region(region: u64, queries: impl Iterator<Item = Query>) -> Vec<(f64, f64)> {
-    let lies_there = |&query: &Query| matches!(outcome(query), (0, number, _) if number == region);
+    let lies_there =
+        |&query: &Query| matches!(outcome(Past::Pulled, query), (0, number, _) if number == region);
     queries.filter(lies_there).map(|(_, p, t)| (p, t)).collect()
 }
 
@@ -376,7 +387,7 @@ mod tests {
 
     /// Each kind with each region and refusal that queries of it end in.
     fn outcomes(queries: impl Iterator<Item = Query>) -> BTreeSet<(u64, String)> {
-        let named = |query: Query| match outcome(query) {
+        let named = |query: Query| match outcome(Past::Pulled, query) {
             (0, region, _) => (query.0, format!("region {region}")),
             (refusal, _, _) => (query.0, format!("refused {refusal}")),
         };
@@ -406,8 +417,8 @@ mod tests {
 
     /// The outcomes of the four queries next to one in a single number.
     fn next((kind, first, second): Query) -> [(u8, u64, bool); 4] {
-        let [below, _, above] = around(first).map(|x| outcome((kind, x, second)));
-        let [left, _, right] = around(second).map(|y| outcome((kind, first, y)));
+        let [below, _, above] = around(first).map(|x| outcome(Past::Kept, (kind, x, second)));
+        let [left, _, right] = around(second).map(|y| outcome(Past::Kept, (kind, first, y)));
         [below, above, left, right]
     }
 
@@ -417,7 +428,7 @@ mod tests {
         let (mut changes, mut marks) = (0, BTreeSet::new());
         for _ in 0..2000 {
             let query = changing(&mut random);
-            let here = outcome(query);
+            let here = outcome(Past::Kept, query);
             let other = next(query).into_iter().filter(|&other| other != here);
             changes += usize::from(other.clone().count() > 0);
             let mark = other.filter(|other| (here.0, here.1) == (other.0, other.1));

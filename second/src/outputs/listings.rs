@@ -6,6 +6,8 @@ use super::hex;
 use crate::answers::{answer, Answer};
 use crate::derivatives::quotient;
 use crate::refusals::{Refusal, LENGTHS};
+use crate::regions::highest_saturation_pressure;
+use crate::saturation::saturation_temperature;
 use crate::sheets::{read, Sheet, NOTE, ROW, ROWS, TRAILER};
 
 /// The longest sheet: the longest note, the most rows and the trailer.
@@ -56,6 +58,19 @@ pub fn quotients(input: &[u8]) -> String {
         }
         Ok(text)
     })
+}
+
+/// How many rows of a sheet are answered in one phase at Ts(p): where a temperature past
+/// saturation is pulled to. The gate counts by it how much of that it has compared.
+pub fn saturated(input: &[u8]) -> usize {
+    let at_saturation = |(kind, first, second)| match answer(kind, first, second) {
+        Ok(Answer::Single { state, .. }) => {
+            let meets_saturation = state.p <= highest_saturation_pressure();
+            meets_saturation && state.t == saturation_temperature(state.p)
+        }
+        _ => false,
+    };
+    read(input).map_or(0, |sheet| sheet.rows().filter(|&row| at_saturation(row)).count())
 }
 
 /// The text of a sheet that reads, or the line of a refused one.
@@ -140,6 +155,14 @@ mod tests {
         assert_eq!(lines[2][..5], ["2", "2", "0", "4", "1"]);
         assert_eq!(lines[2][11..13], ["-", "-"]);
         assert_eq!(lines[3].join(" "), "3 4 1 0 - - - - - - - - - -");
+    }
+
+    #[test]
+    fn rows_at_saturation_are_counted_in_one_phase_alone() {
+        let pulled = [(2, 1.0, 762.68), (3, 0.01, 8.1489), (4, 2777.12, 6.585)];
+        let others = [(2, 1.0, 2000.0), (2, 3.0, 500.0), (4, 2777.0, 6.585), (1, 25.0, 650.0)];
+        assert_eq!(saturated(&sheet(&[], &[&pulled[..], &others].concat())), 3);
+        assert_eq!((saturated(&sheet(&[], &others)), saturated(&[])), (0, 0));
     }
 
     #[test]

@@ -1,4 +1,5 @@
 -- `places::tables::dense` meets its contract: each return stands under the tests that led there. Assumes nothing.
+use mathlib.Core.Path.{refl}
 use borrow.Author.Needs.{needs}
 use lib.Ieee.{round, ofBits}
 use Rattle.arith.specs.Printed.{printed}
@@ -11,7 +12,7 @@ property-requires c κs = search needs
 
 returns : tie.Need-returns
 unfolding denseOf printed round ofBits
-returns c = rw (← c .before .property .ensures, c .if1 .taken)
+returns c = rw (← c .before .property .ensures, c .if1 .taken) refl
 
 t-b23-requires : tie.Need-t-b23-requires
 t-b23-requires c κs = search needs
@@ -28,7 +29,7 @@ returns-2 c =
       ← c .before .before .t-b23 .ensures,
       ← c .before .property2 .ensures,
       c .if2 .taken,
-    )
+    ) refl
 
 returns-3 : tie.Need-returns-3
 unfolding denseOf printed round ofBits
@@ -39,7 +40,7 @@ returns-3 c =
       ← c .before .before .t-b23 .ensures,
       ← c .before .property2 .ensures,
       c .if2 .left,
-    )
+    ) refl
 
 pub dense-spec : {M : Type 1} → statement M
 dense-spec =

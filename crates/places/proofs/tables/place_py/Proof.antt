@@ -1,38 +1,17 @@
--- `places::tables::place_py` meets its contract: each return stands under the tests that led there. Assumes nothing.
+-- `places::tables::place_py` meets its contract: its place is that of the standing. Assumes nothing.
 use borrow.Author.Needs.{needs}
-use lib.Ieee.{round, ofBits, ofInt}
-use Rattle.arith.specs.Printed.{printed}
-use Rattle.places.specs.Places.{placePY}
+use Rattle.places.proofs.Stands.{side-kept}
 use Rattle.places.proofs.tables.place_py.Statement.{statement}
 use Rattle.places.proofs.tables.place_py.Tie as tie
 
-wild-requires : tie.Need-wild-requires
-wild-requires c κs = search needs
+standing-py-requires : tie.Need-standing-py-requires
+standing-py-requires c κs = search needs
+
+side-requires : tie.Need-side-requires
+side-requires c κs = search needs
 
 returns : tie.Need-returns
-unfolding placePY printed round ofBits ofInt
-returns c = rw (← c .before .wild .ensures, c .if1 .taken)
-
-outside-requires : tie.Need-outside-requires
-outside-requires c κs = search needs
-
-returns-2 : tie.Need-returns-2
-unfolding placePY printed round ofBits ofInt
-returns-2 c = rw (← c .before .before .before .wild .ensures, c .before .before .if1 .left, ← c .before .outside .ensures, c .if2 .taken)
-
-ranged-requires : tie.Need-ranged-requires
-ranged-requires c κs = search needs
-
-returns-3 : tie.Need-returns-3
-unfolding placePY printed round ofBits ofInt
-returns-3 c =
-    rw (
-      ← c .before .before .before .before .wild .ensures,
-      c .before .before .before .if1 .left,
-      ← c .before .before .outside .ensures,
-      c .before .if2 .left,
-    ) (c .ranged .ensures)
+returns c = rw (← side-kept, ← c .before .standing-py .ensures) (c .side .ensures)
 
 pub place-py-spec : {M : Type 1} → statement M
-place-py-spec =
-    tie.close (tie.spec wild-requires returns outside-requires returns-2 ranged-requires returns-3)
+place-py-spec = tie.close (tie.spec standing-py-requires side-requires returns)

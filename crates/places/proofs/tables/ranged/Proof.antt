@@ -3,6 +3,8 @@ use borrow.Author.Needs.{needs}
 use lib.Ieee.{round, ofBits}
 use Rattle.arith.specs.Printed.{printed}
 use Rattle.places.specs.Places.{rangedOf}
+use Rattle.places.specs.Standing.{standingOf}
+use Rattle.places.proofs.Stands.{refused-stands}
 use Rattle.places.proofs.tables.ranged.Statement.{statement}
 use Rattle.places.proofs.tables.ranged.Tie as tie
 
@@ -17,7 +19,7 @@ outside-requires c κs = search needs
 
 returns : tie.Need-returns
 unfolding rangedOf printed round ofBits
-returns c = rw (← c .before .before .before .property .ensures, ← c .before .before .property2 .ensures, ← c .before .outside .ensures, c .if1 .taken)
+returns c = rw (← c .before .before .before .property .ensures, ← c .before .before .property2 .ensures, ← c .before .outside .ensures, c .if1 .taken, refused-stands)
 
 saturates-requires : tie.Need-saturates-requires
 saturates-requires c κs = search needs
@@ -26,7 +28,7 @@ saturated-requires : tie.Need-saturated-requires
 saturated-requires c κs = search needs
 
 returns-2 : tie.Need-returns-2
-unfolding rangedOf printed round ofBits
+unfolding rangedOf standingOf printed round ofBits
 returns-2 c =
     let line = c .before in
     let range = line .before .before in
@@ -43,7 +45,7 @@ dense-requires : tie.Need-dense-requires
 dense-requires c κs = search needs
 
 returns-3 : tie.Need-returns-3
-unfolding rangedOf printed round ofBits
+unfolding rangedOf standingOf printed round ofBits
 returns-3 c =
     let line = c .before in
     let range = line .before .before in
