@@ -1,12 +1,11 @@
--- `arith::bits::is_finite` meets its contract: the two comparisons tell the infinities and NaN apart from every other number. Assumes nothing.
 use mathlib.Core.Path.{◌≡◌, refl}
-use mathlib.Core.Bool.{Bool, true, false, not}
-use lib.Ieee.{Float, nan, inf, fin, binary64, lt, neg, div, of_bits}
+use mathlib.Core.Bool.{true, false, not}
+use lib.Ieee.{Float, nan, inf, fin, lt, neg, div, of_bits}
 use Rattle.arith.specs.Bits.{finite}
 use Rattle.arith.proofs.Signs.{never}
-use Rattle.arith.proofs.bits.is_finite.Statement.{statement}
-use Rattle.arith.proofs.bits.is_finite.Tie as tie
+use Rattle.arith.proofs.bits.is_finite.Goals as goal
 
+-- `arith::bits::is_finite` meets its contract: the two comparisons tell the infinities and NaN apart from every other number. Assumes nothing.
 not_below : (x : Float) → lt (inf true) x ≡ true → lt x (inf false) ≡ finite x
 unfolding lt finite
 not_below nan h = refl
@@ -21,13 +20,10 @@ at-bottom (inf true) h = refl
 at-bottom (inf false) h = never refl h
 at-bottom (fin s m e) h = never refl h
 
-returns : tie.Need-returns
+pub returns-then-infinity-x : goal.returns-then-infinity-x
 unfolding div of_bits neg
-returns c = not_below c.before.args.x c.if1.true
+returns-then-infinity-x c = not_below c.args.x c.if-infinity-x.true
 
-returns-2 : tie.Need-returns-2
+pub returns-else-infinity-x : goal.returns-else-infinity-x
 unfolding div of_bits neg
-returns-2 c = at-bottom c.before.args.x c.if1.false
-
-pub is-finite-spec : {M : Type 1} → statement M
-is-finite-spec = tie.close (tie.spec returns returns-2)
+returns-else-infinity-x c = at-bottom c.args.x c.if-infinity-x.false
