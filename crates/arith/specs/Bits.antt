@@ -1,5 +1,5 @@
 -- Any 64 bits as an f64, and which f64 are finite. Definitions only.
-use Rattle.std.specs.Prelude.{ℕ, Bool, true, false, cond, ℤ, Float}
+use Rattle.std.specs.Prelude.{ℕ, Bool, true, false, cond, Float}
 use Rattle.std.specs.Float.{nan, inf, fin, binary64}
 use Rattle.std.specs.Float.Ieee.{nan_bits, of_bits}
 

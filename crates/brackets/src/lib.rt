@@ -1,10 +1,12 @@
 // A bracket, its middle and its halving: of something that rises from end to end, the value at the
 // middle tells the half that holds the value asked (specs/Brackets.antt).
+#![tactic(auto)]
+
 ghost use Rattle.std.specs.Prelude.{◌≡◌};
 ghost use Rattle.brackets.specs.Brackets.{middle_of, half_of};
 
 // The lower and the upper end of where something is sought.
-#[derive(Drop)]
+#[derive(Clone, Copy)]
 pub struct Bracket {
     pub lo: f64,
     pub hi: f64,

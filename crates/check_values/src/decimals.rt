@@ -2,7 +2,7 @@
 // 002 prints it, 0.DIGITSEk for 0.DIGITS · 10^k.
 
 // How a number is written as DIGITS/unit · 10^k: its DIGITS are itself times scale, and k is steps - 3.
-#[derive(Drop)]
+#[derive(Clone, Copy)]
 pub(crate) struct Power {
     pub steps: u64,
     pub scale: f64,

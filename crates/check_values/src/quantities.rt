@@ -4,7 +4,7 @@ use crate::tally::Tally;
 use properties::State;
 
 // The six quantities of a state in a table's order. The first is v, or p where the density is given.
-#[derive(Drop)]
+#[derive(Clone, Copy)]
 pub(crate) struct Point {
     pub first: f64,
     pub h: f64,

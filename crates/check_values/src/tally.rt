@@ -8,7 +8,7 @@ pub(crate) const TEN_DIGITS: u64 = 10_000_000_000;
 
 // That of the paper whose tables are written, how many lines were written, and on how many of them the
 // two numbers agree. The counts wrap at 2^64, which no list of check values comes near.
-#[derive(Drop)]
+#[derive(Clone, Copy)]
 pub(crate) struct Tally {
     pub unit: u64,
     pub lines: u64,

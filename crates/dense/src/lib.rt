@@ -8,7 +8,7 @@ pub use densities::density;
 pub use region3::Region3;
 
 // A density and a temperature as region 3 reads them: beside the reduced density δ and temperature τ.
-#[derive(Drop)]
+#[derive(Clone, Copy)]
 pub struct DensePoint {
     pub density: f64,
     pub t: f64,
@@ -17,7 +17,7 @@ pub struct DensePoint {
 }
 
 // φ of region 3 and its derivatives by δ and τ.
-#[derive(Drop)]
+#[derive(Clone, Copy)]
 pub struct Dense {
     pub f: f64,
     pub fd: f64,

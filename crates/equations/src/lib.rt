@@ -5,7 +5,7 @@ mod names;
 pub use names::{equation_of, is_of, region_of};
 
 // The basic equation that a state of one phase is worked by: that of a region.
-#[derive(Drop)]
+#[derive(Clone, Copy)]
 pub enum Equation {
     Region1,
     Region2,
@@ -14,7 +14,7 @@ pub enum Equation {
 }
 
 // The phases that backward equations reach: liquid is worked in region 1, vapour in region 2.
-#[derive(Drop)]
+#[derive(Clone, Copy)]
 pub enum Phase {
     Liquid,
     Vapour,

@@ -1,6 +1,8 @@
 // The desk as data: 32 rows, a count of tickets for each of eight callers, and a pointer. Rows are
 // looked for and counted here, and a desk is found sound or not; what the calls do with it is the
 // crate desk's. Every function takes every desk: what it answers is said in specs/Rows.antt.
+#![tactic(auto)]
+
 mod look;
 mod sound;
 
@@ -10,7 +12,7 @@ pub use sound::{TICKETS, is_nameable, is_sound};
 // A row. Filled, it holds a caller's ticket, the query of kind 2 (p,h) or 3 (p,s) at p in MPa and y in
 // kJ/kg or kJ/(kg K), the region fixed at the post, the number of halvings that the post named, how many
 // of them are done and the bracket lo to hi in K that they left.
-#[derive(Drop)]
+#[derive(Clone, Copy)]
 pub struct Row {
     pub filled: bool,
     pub caller: u64,
@@ -26,7 +28,7 @@ pub struct Row {
 }
 
 // The rows, how many tickets each caller was given, and the row at which the next turn starts looking.
-#[derive(Drop)]
+#[derive(Clone, Copy)]
 pub struct Desk {
     pub rows: [Row; 32],
     pub counts: [u64; 8],
@@ -34,7 +36,7 @@ pub struct Desk {
 }
 
 // Which row is looked for: an empty one, one with halvings to go, or that of a caller's ticket.
-#[derive(Drop)]
+#[derive(Clone, Copy)]
 pub enum Want {
     Vacant,
     Unfinished,

@@ -5,7 +5,7 @@ mod region1;
 pub use region1::Region1;
 
 // γ of region 1 and its derivatives by π and τ.
-#[derive(Drop)]
+#[derive(Clone, Copy)]
 pub struct Liquid {
     pub g: f64,
     pub gp: f64,

@@ -11,7 +11,7 @@ pub use listings::{answers, regions};
 pub use opening::{INPUT, LONGEST, triples};
 
 // The two listings that have a line a row.
-#[derive(Drop)]
+#[derive(Clone, Copy)]
 enum Listing {
     Regions,
     Answers,

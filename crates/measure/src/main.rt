@@ -48,7 +48,7 @@ fn saturated(s: SaturationPressure) -> f64 {
 }
 
 // The numbers of three properties.
-#[derive(Drop)]
+#[derive(Clone, Copy)]
 struct Three {
     z: u64,
     x: u64,

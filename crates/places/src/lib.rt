@@ -12,14 +12,14 @@ pub use ranges::wild;
 pub use tables::{place_pt, place_py, standing_py};
 
 // The equation of a (p,T), or the refusal.
-#[derive(Drop)]
+#[derive(Clone, Copy)]
 pub enum Place {
     Equation(Equation),
     Refused(u64),
 }
 
 // Where p and an h or s lie: in one phase, wet at a temperature in K, or the refusal.
-#[derive(Drop)]
+#[derive(Clone, Copy)]
 pub enum Side {
     Phase(Phase),
     Wet(f64),
@@ -28,7 +28,7 @@ pub enum Side {
 
 // How p and an h or s stand to the saturation line: up to P in one phase beside Ts(p), in K, or wet at it;
 // above P, beyond where the line parts regions 1 and 2, in one phase; or the refusal.
-#[derive(Drop)]
+#[derive(Clone, Copy)]
 pub enum Standing {
     Beside { phase: Phase, saturated: f64 },
     Wet(f64),

@@ -34,7 +34,7 @@ const DRAIN_H: f64 = 650.0;
 
 // How many states the heater still waits for, none once it was refused; the enthalpy of its water in,
 // in kJ/kg; and where in its room its next line goes.
-#[derive(Drop)]
+#[derive(Clone, Copy)]
 pub(crate) struct Heater {
     pub waits_for: u64,
     pub h_in: f64,

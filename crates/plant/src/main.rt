@@ -17,7 +17,7 @@ const ROUNDS: u64 = 6;
 
 // How many turns the host deals in a round before the posts, from these to the collects of rough states,
 // and from there to those of fine ones.
-#[derive(Drop)]
+#[derive(Clone, Copy)]
 struct Pace {
     before: u64,
     rough: u64,
@@ -25,7 +25,7 @@ struct Pace {
 }
 
 // The desk and who sits at it.
-#[derive(Drop)]
+#[derive(Clone, Copy)]
 struct Plant {
     desk: Desk,
     seats: Seats,

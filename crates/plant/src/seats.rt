@@ -20,7 +20,7 @@ const P_H: u64 = 2;
 const P_S: u64 = 3;
 
 // The models, and the ticket that each seat got last.
-#[derive(Drop)]
+#[derive(Clone, Copy)]
 pub(crate) struct Seats {
     pub turbine: Turbine,
     pub heater: Heater,
@@ -28,14 +28,14 @@ pub(crate) struct Seats {
 }
 
 // The two calls that a query takes; a collect is for the queries that were posted for so many halvings.
-#[derive(Drop)]
+#[derive(Clone, Copy)]
 pub(crate) enum Step {
     Post,
     Collect(u64),
 }
 
 // A call on the desk, or that there is none to make.
-#[derive(Drop)]
+#[derive(Clone, Copy)]
 pub(crate) enum Call {
     Post {
         caller: u64,
@@ -52,7 +52,7 @@ pub(crate) enum Call {
 }
 
 // What an answer of the desk's tells a model.
-#[derive(Drop)]
+#[derive(Clone, Copy)]
 enum Heard {
     Known(Known),
     Nothing,

@@ -42,7 +42,7 @@ const BITS_FROM: usize = 2048;
 // never refused; how many of its states are settled; h in kJ/kg and s in kJ/(kg K) of the steam before
 // the stage at hand; the enthalpy at which that stage will end, in kJ/kg; the shaft power of the stages
 // behind it, in MW; and where in its room its next line and the bits of its next state go.
-#[derive(Drop)]
+#[derive(Clone, Copy)]
 pub(crate) struct Turbine {
     pub runs: bool,
     pub settled: u64,

@@ -7,7 +7,7 @@ pub use gibbs::{enthalpy, entropy, from_gamma, reduced, rooted};
 
 // A pressure and a temperature as a region reads them: with its gas constant R and the reduced
 // pressure π and temperature τ.
-#[derive(Drop)]
+#[derive(Clone, Copy)]
 pub struct Point {
     pub r: f64,
     pub p: f64,
@@ -17,7 +17,7 @@ pub struct Point {
 }
 
 // The six properties of a single-phase state.
-#[derive(Drop)]
+#[derive(Clone, Copy)]
 pub struct State {
     pub v: f64,
     pub u: f64,
@@ -28,7 +28,7 @@ pub struct State {
 }
 
 // The same with w squared, in m²/s²: whoever does not take the speed of sound spares its root.
-#[derive(Drop)]
+#[derive(Clone, Copy)]
 pub struct Unrooted {
     pub v: f64,
     pub u: f64,
@@ -40,7 +40,7 @@ pub struct Unrooted {
 
 // How the volume answers to heat and pressure: the thermal expansion α in 1/K and the isothermal
 // compressibility κ in 1/kPa.
-#[derive(Drop)]
+#[derive(Clone, Copy)]
 pub struct Response {
     pub alpha: f64,
     pub kappa: f64,
@@ -48,7 +48,7 @@ pub struct Response {
 
 // How the pressure answers to heat and volume: the relative pressure coefficient α in 1/K and the
 // isothermal stress coefficient β in kg/m³, with the isochoric heat capacity cv in kJ/(kg K).
-#[derive(Drop)]
+#[derive(Clone, Copy)]
 pub struct PressureResponse {
     pub alpha: f64,
     pub beta: f64,
@@ -56,7 +56,7 @@ pub struct PressureResponse {
 }
 
 // A value that an answer may lack.
-#[derive(Drop)]
+#[derive(Clone, Copy)]
 pub enum Value {
     Is(f64),
     Missing,

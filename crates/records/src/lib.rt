@@ -8,7 +8,7 @@ pub use deeds::read;
 pub use desks::desk_in;
 
 // A call of the desk that a record asks for.
-#[derive(Drop)]
+#[derive(Clone, Copy)]
 pub enum Call {
     Post {
         caller: u64,
@@ -33,7 +33,7 @@ pub enum Call {
 
 // What a record asks for: a call, so many turns, that the desk be the one behind it, or that the desk
 // be shown; or it is no record.
-#[derive(Drop)]
+#[derive(Clone, Copy)]
 pub enum Deed {
     Asked(Call),
     Turns(u64),

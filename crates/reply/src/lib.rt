@@ -5,7 +5,7 @@ mod answers;
 pub use answers::{mark, number, region, values};
 use states::{Single, Wet};
 
-#[derive(Drop)]
+#[derive(Clone, Copy)]
 pub enum Answer {
     Single(Single),
     Wet(Wet),

@@ -8,7 +8,7 @@ use settle::Settled;
 // What a call answers: any of them a refusal number, a post a ticket, a turn that it halved or that
 // there was nothing to halve, a peek the halvings done and the bracket, a collect the state, the number of
 // halvings that were posted for and the bracket that they left, a withdraw that the row is free.
-#[derive(Drop)]
+#[derive(Clone, Copy)]
 pub enum Answer {
     Refused(u64),
     Ticket(u64),
@@ -29,14 +29,14 @@ pub enum Answer {
 }
 
 // A call's answer, and the desk as it leaves it.
-#[derive(Drop)]
+#[derive(Clone, Copy)]
 pub struct Outcome {
     pub answer: Answer,
     pub desk: Desk,
 }
 
 // The row of a caller's ticket, or the refusal of a call that names it.
-#[derive(Drop)]
+#[derive(Clone, Copy)]
 pub enum Open {
     At(usize),
     Closed(u64),

@@ -10,7 +10,7 @@ pub use printed::ts;
 // The saturation pressure in MPa at a T, told apart by T alone: from 273.15 up to 623.15 K, where the line
 // parts regions 1 and 2; above that, up to the critical 647.096 K, where it goes on into region 3; and
 // none at any other T.
-#[derive(Drop)]
+#[derive(Clone, Copy)]
 pub enum SaturationPressure {
     UpTo623(f64),
     Above623(f64),

@@ -9,7 +9,7 @@ use properties::Value;
 use saturation_line::{SaturationPressure, ps};
 
 // The saturation pressure at a T from 273.15 up to 623.15 K, or above that up to 647.096 K, or the refusal.
-#[derive(Drop)]
+#[derive(Clone, Copy)]
 pub enum SaturationAnswer {
     UpTo623(f64),
     Above623(f64),

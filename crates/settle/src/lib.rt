@@ -14,14 +14,14 @@ use states::Single;
 use workings::Given;
 
 // What judging a post finds: the refusal's number, or the phase and the bracket to halve.
-#[derive(Drop)]
+#[derive(Clone, Copy)]
 pub enum Judged {
     Refused(u64),
     Within { phase: Phase, lo: f64, hi: f64 },
 }
 
 // What a collect hands out: the state of one phase that the halvings settled, with its mark.
-#[derive(Drop)]
+#[derive(Clone, Copy)]
 pub struct Settled {
     pub single: Single,
 }

@@ -8,7 +8,7 @@ use words::u32_at;
 
 // What reading a sheet finds: how many rows there are and where the first starts, which is how long
 // the note is; or a refusal's number.
-#[derive(Drop)]
+#[derive(Clone, Copy)]
 pub enum Reading {
     Rows { count: usize, start: usize },
     Refused(u64),

@@ -7,7 +7,7 @@ use sheet::kinds_known;
 use versions::{allowed, version_for};
 
 // What writing a sheet answers: its length, or a refusal's number.
-#[derive(Drop)]
+#[derive(Clone, Copy)]
 pub enum Writing {
     Length(usize),
     Refused(u64),

@@ -12,7 +12,7 @@ pub use ratios::quotient;
 pub use tables::{by_p_and_t, by_v_and_t};
 
 // How each property changes with one variable while the other is held constant.
-#[derive(Drop)]
+#[derive(Clone, Copy)]
 pub struct Row {
     pub p: f64,
     pub t: f64,
@@ -26,14 +26,14 @@ pub struct Row {
 
 // The two rows of slopes of a state: by the first variable of its equation, and by the second. Which
 // two they are has no part in a derivative.
-#[derive(Drop)]
+#[derive(Clone, Copy)]
 pub struct Slopes {
     pub first: Row,
     pub second: Row,
 }
 
 // What a derivative is answered.
-#[derive(Drop)]
+#[derive(Clone, Copy)]
 pub enum Derivative {
     Value(f64),
     Refused(u64),

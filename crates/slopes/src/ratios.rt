@@ -7,7 +7,7 @@ use crate::numbers::all_known;
 use crate::{Derivative, Slopes};
 
 // How one property changes with the first variable, and with the second.
-#[derive(Drop)]
+#[derive(Clone, Copy)]
 pub(crate) struct Change {
     pub first: f64,
     pub second: f64,

@@ -11,7 +11,7 @@ use properties::State;
 use workings::Worked;
 
 // A state of one phase, with the mark whether the forward equations come back to what was asked.
-#[derive(Drop)]
+#[derive(Clone, Copy)]
 pub struct Single {
     pub equation: Equation,
     pub p: f64,
@@ -21,7 +21,7 @@ pub struct Single {
 }
 
 // A state as it is carried until it is handed out or derived.
-#[derive(Drop)]
+#[derive(Clone, Copy)]
 pub struct Full {
     pub equation: Equation,
     pub p: f64,
@@ -31,7 +31,7 @@ pub struct Full {
 }
 
 // A wet state of quality x, which has no cp and no w.
-#[derive(Drop)]
+#[derive(Clone, Copy)]
 pub struct Wet {
     pub p: f64,
     pub t: f64,

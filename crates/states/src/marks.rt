@@ -22,7 +22,7 @@ const S_MARGIN: f64 = 0.0001;
 const P_MARGIN: f64 = 0.001;
 
 // The six properties with w squared, and whether the equation comes back to the p and T asked.
-#[derive(Drop)]
+#[derive(Clone, Copy)]
 pub(crate) struct Met {
     pub unrooted: Unrooted,
     pub met: bool,

@@ -18,7 +18,7 @@ const S_MARGIN: f64 = 0.0005;
 
 // Where a candidate is judged: its T in K, and whether the (p,T) table agrees or counts as agreeing. One
 // state is then worked, in one place, so that it is not copied.
-#[derive(Drop)]
+#[derive(Clone, Copy)]
 pub(crate) struct Trial {
     pub t: f64,
     pub agrees: bool,

@@ -14,21 +14,21 @@ use states::{Full, Wet, handed_out, marked, state_at, wet_at};
 use workings::Given;
 
 // Where a state of one phase lies.
-#[derive(Drop)]
+#[derive(Clone, Copy)]
 pub(crate) struct Spot {
     pub equation: Equation,
     pub p: f64,
     pub t: f64,
 }
 
-#[derive(Drop)]
+#[derive(Clone, Copy)]
 pub(crate) enum Found {
     Single(Spot),
     Wet(Wet),
     Refused(u64),
 }
 
-#[derive(Drop)]
+#[derive(Clone, Copy)]
 pub(crate) enum Outcome {
     Single(Full),
     Wet(Wet),

@@ -2,6 +2,8 @@
 // room. A writer is given a place and answers the place behind what it wrote; where the room ends
 // first, the text is cut there (specs/Room.antt). What is written is said in specs/Texts.antt, and of
 // plain decimals, for people, in specs/Decimals.antt.
+#![tactic(auto)]
+
 mod plain;
 
 ghost use Rattle.std.specs.Prelude.{◌≡◌, [], ◌∷◌, ◌++◌, ◌-◌, ◌<◌, min};
@@ -11,7 +13,7 @@ ghost use Rattle.text.specs.Texts.{decimal_of, hex_digit, hex_of, column_of};
 pub use plain::fixed;
 
 // A column of a line: an f64, or that there is none.
-#[derive(Drop)]
+#[derive(Clone, Copy)]
 pub enum Cell {
     Value(f64),
     Empty,

@@ -9,7 +9,7 @@ pub use steps::play;
 
 // What a record did: the desk afterwards, how many bytes of the run it took, and the place behind its
 // text.
-#[derive(Drop)]
+#[derive(Clone, Copy)]
 pub struct Step {
     pub desk: Desk,
     pub taken: usize,

@@ -6,7 +6,7 @@ use desk::{Answer, Desk};
 
 // What turns one after the other gave: the refusal or 0, how many halved and how many had nothing to
 // halve, and the desk afterwards.
-#[derive(Drop)]
+#[derive(Clone, Copy)]
 pub struct Turned {
     pub refusal: u64,
     pub halved: u64,

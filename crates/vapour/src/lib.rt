@@ -6,7 +6,7 @@ mod vapours;
 pub use vapours::{added, gibbs, response_at, unrooted_at};
 
 // γ = γ° + γʳ with its derivatives γπ, γτ and γττ, and the residual part's γʳπ, γʳππ and γʳπτ.
-#[derive(Drop)]
+#[derive(Clone, Copy)]
 pub struct Vapour {
     pub g: f64,
     pub gp: f64,

@@ -6,7 +6,7 @@ mod worked;
 pub use worked::{Worked, given_of, property, quotient_at, worked_at};
 
 // Which property a query gives beside p.
-#[derive(Drop)]
+#[derive(Clone, Copy)]
 pub enum Given {
     Enthalpy,
     Entropy,

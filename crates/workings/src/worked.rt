@@ -20,7 +20,7 @@ use steam::Region2;
 use vapour::Vapour;
 
 // The six properties with w squared, and the slopes, from one working of the sums.
-#[derive(Drop)]
+#[derive(Clone, Copy)]
 pub struct Worked {
     pub unrooted: Unrooted,
     pub slopes: Slopes,

@@ -1,6 +1,6 @@
 // The places of the heater, and what its lines call them.
 
-#[derive(Drop)]
+#[derive(Clone, Copy)]
 pub(crate) enum Place {
     WaterIn,
     BledSteam,

@@ -4,7 +4,7 @@ use states::Single;
 
 // What a model asks next: the state at p in MPa and h in kJ/kg, or at p and s in kJ/(kg K); or nothing,
 // since it has all that it needs or was refused.
-#[derive(Drop)]
+#[derive(Clone, Copy)]
 pub(crate) enum Asks {
     ByEnthalpy { p: f64, h: f64 },
     ByEntropy { p: f64, s: f64 },
@@ -12,7 +12,7 @@ pub(crate) enum Asks {
 }
 
 // What a model is told: the state that it asked for, of one phase, or the refusal's number.
-#[derive(Drop)]
+#[derive(Clone, Copy)]
 pub(crate) enum Known {
     State(Single),
     Refused(u64),

@@ -8,7 +8,7 @@ use text::Cell;
 pub(crate) const KW_IN_MW: f64 = 1000.0;
 
 // What a model gives off at a place, in MW.
-#[derive(Drop)]
+#[derive(Clone, Copy)]
 pub(crate) enum Output {
     Nothing,
     ShaftPower(f64),

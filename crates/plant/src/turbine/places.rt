@@ -2,7 +2,7 @@
 
 // Where in the turbine a state is. A stage, by its number, has two ends: the one of an ideal expansion,
 // which no steam reaches, and its own.
-#[derive(Drop)]
+#[derive(Clone, Copy)]
 pub(crate) enum Place {
     Inlet,
     IdealEnd(u64),

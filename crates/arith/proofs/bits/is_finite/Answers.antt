@@ -1,5 +1,5 @@
 use mathlib.Core.Path.{◌≡◌, refl}
-use mathlib.Core.Bool.{true, false, not}
+use mathlib.Core.Bool.{true, false}
 use lib.Ieee.{Float, nan, inf, fin, lt, neg, div, of_bits}
 use Rattle.arith.specs.Bits.{finite}
 use Rattle.arith.proofs.Signs.{never}

@@ -1,6 +1,5 @@
 use mathlib.Core.Path.{◌≡◌}
 use Prim.Native.Nat.{◌≤◌, ◌-◌}
-use native.Mathlib.Omega.{arith}
 use Rattle.arith.specs.Power.{raised}
 use Rattle.arith.proofs.powers.raised.Given as goal
 
