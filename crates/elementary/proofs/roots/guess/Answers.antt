@@ -1,0 +1,18 @@
+use Rattle.std.proofs.Common.{◌+◌, ◌/◌, ⊎_elim, arith}
+use lib.Ieee.{of_bits}
+use Rattle.arith.proofs.Signs.{no_nan, no_nan_bits}
+use Rattle.elementary.proofs.roots.guess.Goals as goal
+
+-- `elementary::roots::guess` is safe: what it makes of bits is no NaN, nor is what it takes the bits of. Assumes nothing.
+pub float_from_bits-x : goal.float_from_bits-x
+float_from_bits-x c = no_nan_bits c.args.b (omega arith)
+
+pub float_from_bits-y : goal.float_from_bits-y
+float_from_bits-y c = no_nan_bits (0x1ff7_a3be_a91d_9b1b + c.args.b / 2) (omega arith)
+
+pub float_to_bits-digits : goal.float_to_bits-digits
+unfolding of_bits
+float_to_bits-digits c = no_nan _ c.if-y.true
+
+pub overflow_add-result : goal.overflow_add-result
+overflow_add-result c = ⊎_elim (λ w. omega arith) (λ w. omega arith) c.if-y.branch

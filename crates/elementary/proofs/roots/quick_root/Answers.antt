@@ -1,0 +1,4 @@
+use Rattle.elementary.proofs.roots.quick_root.Goals as goal
+
+pub returns-then-r-ne0 : goal.returns-then-r-ne0
+returns-then-r-ne0 c = c.settled-r.ensures c.if-r-ne0.true

@@ -1,0 +1,8 @@
+use mathlib.Core.Path.{ap}
+use Rattle.terms.specs.Six.{six_of}
+use Rattle.terms.specs.declared.Six.{Six}
+use Rattle.terms.proofs.walk.slope_by_b.Goals as goal
+
+pub returns : goal.returns
+unfolding six_of
+returns c = ap (λ (s : Six). s.fb) c.six_sums-s.ensures

@@ -1,0 +1,55 @@
+use mathlib.Core.Path.{◌≡◌, refl, sym, subst, ap, ◌∙◌}
+use mathlib.Core.Bool.{Bool, true, false, not, true≢false, cond}
+use mathlib.Core.List.{[], ◌∷◌, ◌++◌}
+use Prim.Native.Nat.{ℕ}
+use lib.Dec.{T}
+use lib.Ieee.{Float, nan, inf, fin, is_nan, ne, binary64, to_bits}
+use lib.Ieee.Compare.{differs_from_itself, nan_differs}
+use Rattle.text.specs.Texts.{hex_of, value_of, column_of}
+use Rattle.text.specs.declared.Cell.{Cell}
+use Rattle.text.specs.declared.Cell.TheVariants.{Value, Empty}
+use Rattle.text.proofs.Pieces.{said, reads}
+use Rattle.text.proofs.column.Goals as goal
+use Rattle.text.proofs.column.Goals.{In-Empty, In-Value}
+
+-- `text::column` meets its contract, case by case: `-` where there is no value, `nan` for what differs from itself, and else the bits. Assumes nothing.
+-- the test is whether a value is the NaN
+is-nan : (x : Float) → ne x x ≡ true → is_nan x ≡ true
+unfolding is_nan
+is-nan x e = ap is_nan (differs_from_itself x (subst T (sym e) tt))
+
+no_nan : (x : Float) → ne x x ≡ false → is_nan x ≡ false
+unfolding is_nan
+no_nan nan e = absurd (true≢false (sym nan_differs ∙ e))
+no_nan (inf s) e = refl
+no_nan (fin s m d) e = refl
+
+-- the column of a cell that holds a value, with the byte that ends it
+text_of : (c : Cell) (x : Float) (t : Bool) (end : ℕ) → c ≡ Value x → is_nan x ≡ t
+    → cond t (110 ∷ 97 ∷ 110 ∷ []) (hex_of (to_bits binary64 x)) ++ end ∷ [] ≡ column_of c ++ end ∷ []
+unfolding column_of value_of
+text_of c x t end e q =
+    ap (λ (b : Bool). cond b (110 ∷ 97 ∷ 110 ∷ []) (hex_of (to_bits binary64 x)) ++ end ∷ []) (sym q) ∙ ap (λ (d : Cell). column_of d ++ end ∷ []) (sym e)
+
+-- what the cell holds, in each arm
+held : (c : In-Value) → c.args.c-1 ≡ Value c.in-Value.x
+held c = cc
+
+empty : (c : In-Empty) → c.args.c-1 ≡ Empty
+empty c = cc
+
+pub returns-then-x : goal.returns-then-x
+returns-then-x c =
+    said (text_of _ _ true c.args.end (held c) (is-nan _ c.if-x.true)) c.bytes-then-x.ensures
+
+pub float_to_bits-x : goal.float_to_bits-x
+float_to_bits-x c = subst (λ (t : Bool). T (not t)) (sym (no_nan _ c.if-x.false)) tt
+
+pub returns-in-Empty : goal.returns-in-Empty
+unfolding column_of
+returns-in-Empty c =
+    reads c.bytes.ensures (rw (empty c) refl)
+
+pub returns-else-x : goal.returns-else-x
+returns-else-x c =
+    said (text_of _ _ false c.args.end (held c) (no_nan _ c.if-x.false)) c.hex.ensures

@@ -1,0 +1,33 @@
+use Prim.Native.Nat.{ℕ, ◌+◌, ◌-◌, ◌≤◌}
+use mathlib.Core.Path.{◌≡◌, refl, ap, ◌∙◌}
+use mathlib.Core.List.{[], ◌∷◌, ◌++◌}
+use native.Mathlib.Omega.{arith}
+use lib.ListN.{length, drop, length-drop, length-set}
+use lib.Seq.{take_all}
+use Rattle.text.specs.Decimals.{digits_from}
+use Rattle.text.proofs.Digits.{digits_next, digits_last}
+use Rattle.text.proofs.Pieces.{reads}
+use Rattle.text.proofs.plain.last_digits.Goals as goal
+
+pub loop-first-init : goal.loop-first-init
+loop-first-init c = (omega arith, refl, refl)
+
+pub loop-first-preserved : goal.loop-first-preserved
+loop-first-preserved c =
+    let l = c.loop-first in
+    let i = l.first - 1 in
+    let e : i + 1 ≡ l.first = omega arith in (
+      omega arith,
+      digits_next i l.left l.text (omega arith) ∙ ap (λ (k : ℕ). digits_from k l.left ++ drop k l.text) e ∙ l.invariant.1,
+      simp length-set l.invariant.2,
+    )
+
+pub returns : goal.returns
+unfolding digits_from
+returns c =
+    let l = c.loop-first in
+    let a = c.args in
+    let z : 0 ≡ l.first = omega arith in
+    let t : l.text ≡ digits_from 3 a.n ++ a.end ∷ [] = ap (λ (k : ℕ). digits_from k l.left ++ drop k l.text) z ∙ l.invariant.1 in
+    let whole : length (drop (3 - a.k) l.text) ≤ 4 - (3 - a.k) = simp length-drop (omega arith) in
+    reads c.bytes.ensures (take_all _ _ whole ∙ ap (drop (3 - a.k)) t ∙ digits_last a.k a.n a.end (omega arith))

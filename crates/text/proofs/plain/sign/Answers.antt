@@ -1,0 +1,13 @@
+use mathlib.Core.Path.{sym, ap}
+use mathlib.Core.Bool.{Bool, cond}
+use mathlib.Core.List.{[], ◌∷◌}
+use borrow.Author.Tests.{le-leb, lt-leb}
+use Rattle.text.proofs.Pieces.{none, said}
+use Rattle.text.proofs.plain.sign.Goals as goal
+
+pub returns-then-bits-ge9223372036854775808 : goal.returns-then-bits-ge9223372036854775808
+returns-then-bits-ge9223372036854775808 c =
+    said (ap (λ (t : Bool). cond t (45 ∷ []) []) (sym (le-leb _ _ c.if-bits-ge9223372036854775808.true))) c.bytes.ensures
+
+pub returns : goal.returns
+returns-then-bits-ge9223372036854775808 c = said (ap (λ (t : Bool). cond t (45 ∷ []) []) (sym (lt-leb _ _ c.if-bits-ge9223372036854775808.false))) (none _ _)
