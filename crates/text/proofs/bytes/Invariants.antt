@@ -2,7 +2,6 @@ use Prim.Native.Nat.{◌-◌, ◌≤◌}
 use mathlib.Core.Path.{◌≡◌}
 use lib.ListN.{length}
 use lib.Seq.{paste}
-use Rattle.text.specs.Room.{placed}
 use Rattle.text.proofs.bytes.Given as goal
 
 -- `text::bytes` meets its contract. The invariant: the first i bytes are pasted into the room from its place on, and the room is as long as it was.

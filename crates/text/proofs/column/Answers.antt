@@ -7,10 +7,9 @@ use lib.Ieee.{Float, nan, inf, fin, is_nan, ne, binary64, to_bits}
 use lib.Ieee.Compare.{differs_from_itself, nan_differs}
 use Rattle.text.specs.Texts.{hex_of, value_of, column_of}
 use Rattle.text.specs.declared.Cell.{Cell}
-use Rattle.text.specs.declared.Cell.TheVariants.{Value, Empty}
+use Rattle.text.specs.declared.Cell.TheVariants.{Value}
 use Rattle.text.proofs.Pieces.{said, reads}
 use Rattle.text.proofs.column.Goals as goal
-use Rattle.text.proofs.column.Goals.{In-Empty, In-Value}
 
 -- `text::column` meets its contract, case by case: `-` where there is no value, `nan` for what differs from itself, and else the bits. Assumes nothing.
 -- the test is whether a value is the NaN
@@ -31,16 +30,9 @@ unfolding column_of value_of
 text_of c x t end e q =
     ap (λ (b : Bool). cond b (110 ∷ 97 ∷ 110 ∷ []) (hex_of (to_bits binary64 x)) ++ end ∷ []) (sym q) ∙ ap (λ (d : Cell). column_of d ++ end ∷ []) (sym e)
 
--- what the cell holds, in each arm
-held : (c : In-Value) → c.args.c-1 ≡ Value c.in-Value.x
-held c = cc
-
-empty : (c : In-Empty) → c.args.c-1 ≡ Empty
-empty c = cc
-
 pub returns-then-x : goal.returns-then-x
 returns-then-x c =
-    said (text_of _ _ true c.args.end (held c) (is-nan _ c.if-x.true)) c.bytes-then-x.ensures
+    said (text_of _ _ true c.args.end c.in-Value.is (is-nan _ c.if-x.true)) c.bytes-then-x.ensures
 
 pub float_to_bits-x : goal.float_to_bits-x
 float_to_bits-x c = subst (λ (t : Bool). T (not t)) (sym (no_nan _ c.if-x.false)) tt
@@ -48,8 +40,8 @@ float_to_bits-x c = subst (λ (t : Bool). T (not t)) (sym (no_nan _ c.if-x.false
 pub returns-in-Empty : goal.returns-in-Empty
 unfolding column_of
 returns-in-Empty c =
-    reads c.bytes.ensures (rw (empty c) refl)
+    reads c.bytes.ensures (rw c.in-Empty.is refl)
 
 pub returns-else-x : goal.returns-else-x
 returns-else-x c =
-    said (text_of _ _ false c.args.end (held c) (no_nan _ c.if-x.false)) c.hex.ensures
+    said (text_of _ _ false c.args.end c.in-Value.is (no_nan _ c.if-x.false)) c.hex.ensures

@@ -1,9 +1,8 @@
-use Prim.Native.Nat.{◌+◌, ◌-◌, ◌^◌, ◌≤◌, ◌<◌}
+use Prim.Native.Nat.{◌^◌, ◌≤◌, ◌<◌}
 use mathlib.Core.Path.{◌≡◌}
 use mathlib.Core.List.{[], ◌∷◌, ◌++◌}
 use lib.ListN.{length, drop}
 use Rattle.text.specs.Texts.{decimal_from, decimal_of}
-use Rattle.text.proofs.Digits.{decimal_next}
 use Rattle.text.proofs.decimal.Given as goal
 
 -- `text::decimal` meets its contract. The invariant: the digits left to be written, with what stands behind them, are the whole text (`decimal_next`

@@ -2,7 +2,7 @@ use Prim.Native.Nat.{ℕ, ◌+◌, ◌-◌, ◌/◌}
 use mathlib.Core.Path.{◌≡◌, refl, ap, ◌∙◌}
 use mathlib.Core.List.{◌++◌}
 use native.Mathlib.Omega.{arith}
-use lib.ListN.{length, drop, set, length-set}
+use lib.ListN.{drop, set, length-set}
 use Rattle.text.specs.Texts.{hex_from, hex_of}
 use Rattle.text.proofs.Digits.{hex_next}
 use Rattle.text.proofs.Pieces.{said}
@@ -18,9 +18,9 @@ loop-first-preserved c =
     let i = l.first - 1 in
     let e : i + 1 ≡ l.first = omega arith in (
       omega arith,
-      ap (λ (d : ℕ). hex_from i (l.left / 16) ++ drop i (set l.text-1 i d)) c.hex-digit.ensures
-          ∙ hex_next i l.left l.text-1 (omega arith)
-          ∙ ap (λ (k : ℕ). hex_from k l.left ++ drop k l.text-1) e
+      ap (λ (d : ℕ). hex_from i (l.left / 16) ++ drop i (set l.text i d)) c.hex_digit.ensures
+          ∙ hex_next i l.left l.text (omega arith)
+          ∙ ap (λ (k : ℕ). hex_from k l.left ++ drop k l.text) e
           ∙ l.invariant.1,
       simp length-set l.invariant.2,
     )
@@ -30,4 +30,4 @@ unfolding hex_from
 returns c =
     let l = c.loop-first in
     let z : 0 ≡ l.first = omega arith in
-    said (ap (λ (k : ℕ). hex_from k l.left ++ drop k l.text-1) z ∙ l.invariant.1) c.bytes.ensures
+    said (ap (λ (k : ℕ). hex_from k l.left ++ drop k l.text) z ∙ l.invariant.1) c.bytes.ensures

@@ -1,9 +1,8 @@
-use Prim.Native.Nat.{◌+◌, ◌-◌, ◌≤◌}
+use Prim.Native.Nat.{◌≤◌}
 use mathlib.Core.Path.{◌≡◌}
 use mathlib.Core.List.{[], ◌∷◌, ◌++◌}
 use lib.ListN.{length, drop}
 use Rattle.text.specs.Texts.{hex_from, hex_of}
-use Rattle.text.proofs.Digits.{hex_next}
 use Rattle.text.proofs.hex.Given as goal
 
 -- `text::hex` meets its contract. The invariant: the digits left to be written, with what stands behind them, are the whole text (`hex_next` moves one

@@ -7,7 +7,6 @@ use native.Mathlib.Omega.{arith}
 use lib.Dec.{T, leb}
 use lib.Ieee.{Float, nan, inf, fin, is_nan, binary64, fits, of_bits, to_bits}
 use lib.Ieee.Bits.{of_bits-to_bits}
-use borrow.Author.Tests.{not-true, not-false}
 use Rattle.text.specs.Texts.{value_of, column_of}
 use Rattle.text.specs.Decimals.{scaled_of, pointed_of, sign_of, modest, fixed_of}
 use Rattle.text.proofs.Rounding.{bits_bound, bits_sign}
@@ -47,29 +46,29 @@ pub returns-then-not-is_modest : goal.returns-then-not-is_modest
 unfolding column_of
 returns-then-not-is_modest c =
     let a = c.args in
-    said (as-column a.x a.places a.end (sym c.is-modest.ensures ∙ not-true _ c.if-not-is_modest.true)) c.column.ensures
+    said (as-column a.x a.places a.end (sym c.is_modest.ensures ∙ c.if-not-is_modest.true)) c.column.ensures
 
 pub float_to_bits-bits : goal.float_to_bits-bits
 float_to_bits-bits c =
-    no_nan c.args.x (sym c.is-modest.ensures ∙ not-false _ c.if-not-is_modest.false)
+    no_nan c.args.x (sym c.is_modest.ensures ∙ c.if-not-is_modest.false)
 
 pub scaled-n-requires : goal.scaled-n-requires
 scaled-n-requires c =
     let x = c.args.x in
-    let h : modest x ≡ true = sym c.is-modest.ensures ∙ not-false _ c.if-not-is_modest.false in
-    let b = bits_bound (to_bits binary64 x) (ap modest (own x c.well-formed.0.1) ∙ h) in
+    let h : modest x ≡ true = sym c.is_modest.ensures ∙ c.if-not-is_modest.false in
+    let b = bits_bound (to_bits binary64 x) (ap modest (own x c.well_formed.0.1) ∙ h) in
     let k = c.at_most_three-k.result in
     let s : 10 ^ k ≤ 10 ^ 3 = pow-le-pow_right {n = 10} (omega arith) {i = k} {j = 3} (omega arith) in
     (omega arith, omega arith)
 
 pub returns : goal.returns
-returns-then-not-is_modest c =
+returns c =
     let a = c.args in
     said
     (as-decimals a.x (to_bits binary64 a.x) a.places _ _ _ a.end
-    (own a.x c.well-formed.0.1)
-    (sym c.is-modest.ensures ∙ not-false _ c.if-not-is_modest.false)
+    (own a.x c.well_formed.0.1)
+    (sym c.is_modest.ensures ∙ c.if-not-is_modest.false)
     c.at_most_three-k.ensures
-    c.power-of-ten.ensures
+    c.power_of_ten.ensures
     c.scaled-n.ensures)
     (then c.sign-front.ensures c.pointed.ensures)

@@ -1,9 +1,8 @@
-use Prim.Native.Nat.{◌+◌, ◌-◌, ◌≤◌}
+use Prim.Native.Nat.{◌≤◌}
 use mathlib.Core.Path.{◌≡◌}
 use mathlib.Core.List.{[], ◌∷◌, ◌++◌}
 use lib.ListN.{length, drop}
 use Rattle.text.specs.Decimals.{digits_from}
-use Rattle.text.proofs.Digits.{digits_next}
 use Rattle.text.proofs.plain.last_digits.Given as goal
 
 -- `text::plain::last_digits` meets its contract. The invariant: the digits left to be written, with what stands behind them, are the last three and the

@@ -26,10 +26,10 @@ returns-then-k-eq0 c =
 
 pub nonzero_div-n : goal.nonzero_div-n
 nonzero_div-n c =
-    subst (λ (s : ℕ). 0 < s) (sym c.power-of-ten.ensures)
+    subst (λ (s : ℕ). 0 < s) (sym c.power_of_ten.ensures)
     (pow-le-pow_right {n = 10} (omega arith) {i = 0} {j = c.args.k} (omega arith))
 
 pub returns : goal.returns
-returns-then-k-eq0 c =
+returns c =
     let a = c.args in
-    said (with-point a.k a.n _ a.end c.if-k-eq0.false c.power-of-ten.ensures) (then c.decimal-point.ensures c.last_digits.ensures)
+    said (with-point a.k a.n _ a.end c.if-k-eq0.false c.power_of_ten.ensures) (then c.decimal-point.ensures c.last_digits.ensures)

@@ -38,7 +38,7 @@ nonzero_div-result-2 c =
     subst (λ (u : ℕ). 0 < u) (sym (shifted j (omega arith))) (pow_pos j)
 
 pub returns : goal.returns
-returns-then-exponent-lt1012 c =
+returns c =
     let a = c.args in
     let e = a.bits % 2 ^ 63 / 2 ^ 52 in
     worked (2 ^ 52 + a.bits % 2 ^ 52) a.scale (1075 - e) (omega arith) ∙ sym (bits_high a.bits a.scale (omega arith) (omega arith))

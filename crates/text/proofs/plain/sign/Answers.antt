@@ -10,4 +10,4 @@ returns-then-bits-ge9223372036854775808 c =
     said (ap (λ (t : Bool). cond t (45 ∷ []) []) (sym (le-leb _ _ c.if-bits-ge9223372036854775808.true))) c.bytes.ensures
 
 pub returns : goal.returns
-returns-then-bits-ge9223372036854775808 c = said (ap (λ (t : Bool). cond t (45 ∷ []) []) (sym (lt-leb _ _ c.if-bits-ge9223372036854775808.false))) (none _ _)
+returns c = said (ap (λ (t : Bool). cond t (45 ∷ []) []) (sym (lt-leb _ _ c.if-bits-ge9223372036854775808.false))) (none _ _)
