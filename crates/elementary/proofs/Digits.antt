@@ -34,6 +34,8 @@ root_infinity = refl
 -- ---- by the number of smallest ones
 pub by_units : (x : Float) (a : ℕ) → HasValue x false a (2 ^ 1074) → 0 < a → root_of x ≡ root_units a
 unfolding root_of
+by_units nan a v h = elim v [ ]
+by_units (inf _) a v h = elim v [ ]
 by_units (fin true m e) a v h = absurd (true≢false v.0)
 by_units (fin false m e) a v h = rw (ne_eqb m 0 some) (ap root_units (ap (λ z. z / down e) v.1 ∙ mul-div_cancel a (down_pos e)))
   where

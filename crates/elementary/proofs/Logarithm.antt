@@ -8,7 +8,7 @@ use lib.Ieee.Digits.{back, minus_val, size-lt, size-le, size_reaches}
 use lib.Ieee.Fits.{down_pos, odd-fits}
 use lib.Ieee.Exact.{HasValue, odd_sign}
 use Rattle.arith.specs.F64.{f64, ◌⊕◌, ◌⊖◌, ◌⊗◌, ◌⊘◌}
-use Rattle.elementary.specs.Log.{ln2, series, log_sum, Parts, parts_at, parts_of, Split, log_units, log_of}
+use Rattle.elementary.specs.Log.{ln2, series, log_sum, parts_at, parts_of, Split, log_units, log_of}
 use Rattle.arith.specs.Printed.{printed}
 use Rattle.arith.proofs.Literals.{one_is, two_is}
 use Rattle.arith.proofs.Signs.{zero64, never, plus}
@@ -60,6 +60,8 @@ sum_is m e p q = rw (q, p, one_is, two_is, ln2_is)
 -- ---- by the number of smallest ones
 by_units : (x : Float) (a : ℕ) → HasValue x false a (2 ^ 1074) → log_of x ≡ log_units a
 unfolding log_of
+by_units nan a v = elim v [ ]
+by_units (inf _) a v = elim v [ ]
 by_units (fin true m e) a v = absurd (true≢false v.0)
 by_units (fin false m e) a v = ap log_units (ap (λ z. z / down e) v.1 ∙ mul-div_cancel a (down_pos e))
 

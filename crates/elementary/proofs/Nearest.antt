@@ -1,12 +1,11 @@
 -- `root_of x` is the f64 nearest the root of x (`root_nearest`), and no other f64 is (`nothing_else`), for every positive finite f64 x. Assumes nothing.
 -- x scaled is a whole number s whose root has 53 binary digits, and 4s lies strictly between the squares of the odd numbers 2r - 1 and 2r + 1.
-use Rattle.std.proofs.Common.{◌≡◌, ℕ, zero, suc, ◌+◌, ◌-◌, ◌*◌, ◌/◌, ◌^◌, ◌<◌, ◌≤◌, Bool, true, false, cond, not, T, leb, ◌⊎◌, sym, refl, ap, ◌∙◌, subst, inl, inr, le_trans, le_of_eq, lt_of_lt_of_le, lt_of_le_of_lt, le_of_lt, lt_irrefl, mul-le-mul_right, mul_assoc, add-mul, mul-le-mul, add_comm, lt_of_mul-lt-mul_right, eq-or-lt_of_le, mul-lt-mul_of_pos_right, mul-pos, lt_of_not-le, not-le_of_lt, le_of_mul-le-mul_right, arith, leb→le, pow_pos, pow_mono, pow-add, shl_lt}
+use Rattle.std.proofs.Common.{◌≡◌, ℕ, zero, suc, ◌+◌, ◌-◌, ◌*◌, ◌/◌, ◌^◌, ◌<◌, ◌≤◌, Bool, true, false, cond, not, T, leb, ◌⊎◌, sym, refl, ap, ◌∙◌, subst, inl, inr, le_trans, le_of_eq, lt_of_lt_of_le, lt_of_le_of_lt, le_of_lt, mul-le-mul_right, mul_assoc, add-mul, mul-le-mul, add_comm, lt_of_mul-lt-mul_right, eq-or-lt_of_le, mul-lt-mul_of_pos_right, mul-pos, lt_of_not-le, not-le_of_lt, le_of_mul-le-mul_right, arith, leb→le, pow_pos, pow_mono, pow-add, shl_lt}
 use native.Mathlib.Nat.{mul-mul-mul_comm, one-le-pow}
 use lib.Dec.{nleb→lt}
 use lib.Ieee.{Float, binary64, size, odd, fits}
 use lib.Ieee.Digits.{size-lt, size-le, size_reaches}
 use lib.Ieee.Fits.{odd-fits}
-use lib.Ieee.Positive.{first_pos}
 use lib.Ieee.Exact.{HasValue, odd_sign}
 use Rattle.elementary.specs.Root.{floor_root, near_root, root_units, root_of, Nearest}
 use Rattle.elementary.proofs.Units.{Counted, counted, place, odd_shift, value_unique}

@@ -4,7 +4,7 @@ use native.Mathlib.Nat.{eq_of_mul-eq-mul_right}
 use lib.Dec.{nleb→lt}
 use lib.Count.{count_trailing_zeros}
 use lib.Pow.{pow-lt}
-use lib.Ieee.{Float, fin, binary64, up, down, minus, size, odd, fits, of_fields, of_bits, to_bits}
+use lib.Ieee.{Float, nan, inf, fin, binary64, up, down, minus, size, odd, fits, of_fields, of_bits, to_bits}
 use lib.Ieee.Bits.{of_bits-to_bits}
 use lib.Ieee.Digits.{back}
 use lib.Ieee.Fits.{down_pos, and_l, and_r}
@@ -60,6 +60,8 @@ pub record Counted (c : ℕ) : Type 0 where
 
 pub counted : (z : Float) (c : ℕ) → T (fits binary64 z) → HasValue z false c (2 ^ 1074) → Counted c
 unfolding fits
+counted nan c t v = elim v [ ]
+counted (inf _) c t v = elim v [ ]
 counted (fin s zero e) c t v =
     let none : c ≡ 0 = eq_of_mul-eq-mul_right (down e) (down_pos e) c 0 (sym v.1 ∙ simp zero-mul) in
     record { g = 0; j = 0; short = pow_pos 53; count = none; bounded = rw none (pow_pos 2098) }
@@ -92,6 +94,8 @@ bits_of n = let k = size n - 53 in 0 + k * 2 ^ 52 + n / 2 ^ k
 
 bits_are : (x : Float) (a : ℕ) → HasValue x false a (2 ^ 1074) → to_bits binary64 x ≡ bits_of a
 unfolding to_bits bits_of
+bits_are nan a v = elim v [ ]
+bits_are (inf _) a v = elim v [ ]
 bits_are (fin true m e) a v = absurd (true≢false v.0)
 bits_are (fin false m e) a v = ap (λ n. bits_of n) (ap (λ z. z / down e) v.1 ∙ mul-div_cancel a (down_pos e))
 

@@ -1,6 +1,6 @@
 -- The square root of an f64: the f64 nearest the exact root, said by comparing squares of whole numbers. Definitions only.
 -- Every f64 is a whole number of the smallest one, 2^-1074. Counted so, x = n / 2^1074 and its root is √n / 2^537: subnormal numbers are no special case.
-use Rattle.std.specs.Prelude.{◌≡◌, ℕ, zero, suc, ◌+◌, ◌-◌, ◌*◌, ◌/◌, ◌^◌, ◌<◌, ◌≤◌, false, cond, T, ◌==◌, nat_le, Float}
+use Rattle.std.specs.Prelude.{ℕ, zero, suc, ◌+◌, ◌-◌, ◌*◌, ◌/◌, ◌^◌, ◌<◌, ◌≤◌, false, cond, T, ◌==◌, nat_le, Float}
 use Rattle.std.specs.Float.{nan, inf, fin, binary64}
 use Rattle.std.specs.Float.Ieee.{up, down, size, odd, fits}
 use Rattle.std.specs.Float.Ieee.Exact.{HasValue}

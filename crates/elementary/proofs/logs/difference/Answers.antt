@@ -1,9 +1,9 @@
+-- `elementary::logs::difference` meets its contract. Assumes nothing.
 use Rattle.std.proofs.Common.{◌-◌, ◌^◌, arith, le→leb, le-leb}
 use lib.Ieee.{in_float}
 use Rattle.elementary.proofs.Logarithm.{minus_is}
 use Rattle.elementary.proofs.logs.difference.Goals as goal
 
--- `elementary::logs::difference` meets its contract. Assumes nothing.
 pub int_to_float-result : goal.int_to_float-result
 unfolding in_float
 int_to_float-result c = le→leb (c.args.k - c.args.c) (2 ^ 53) (omega arith)

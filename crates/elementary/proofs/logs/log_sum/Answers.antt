@@ -1,4 +1,5 @@
-use Rattle.std.proofs.Common.{◌-◌, refl, ap, ◌∙◌, arith}
+-- `elementary::logs::log_sum` meets its contract: the series begins with 1/23 and ends after eleven turns. Assumes nothing.
+use Rattle.std.proofs.Common.{refl, ap, ◌∙◌, arith}
 use Rattle.elementary.specs.Log.{series}
 use Rattle.arith.proofs.Literals.{one_is}
 use Rattle.elementary.proofs.Logarithm.{twenty_three_is, series_step, sum_is}

@@ -1,3 +1,4 @@
+-- `elementary::roots::fourth_root` meets its contract. Assumes nothing.
 use Rattle.std.proofs.Common.{ap, ◌∙◌}
 use Rattle.elementary.specs.Root.{root_of, fourth_root_of}
 use Rattle.elementary.proofs.roots.fourth_root.Goals as goal

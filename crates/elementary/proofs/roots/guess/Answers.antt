@@ -1,9 +1,10 @@
-use Rattle.std.proofs.Common.{◌+◌, ◌/◌, ⊎_elim, arith}
+-- `elementary::roots::guess` is safe: what it makes of bits is no NaN, nor is what it takes the bits of. Assumes nothing.
+use Rattle.std.proofs.Common.{◌+◌, ◌/◌, arith}
 use lib.Ieee.{of_bits}
 use Rattle.arith.proofs.Signs.{no_nan, no_nan_bits}
 use Rattle.elementary.proofs.roots.guess.Goals as goal
+use Rattle.elementary.proofs.roots.guess.Goals.{then-y, else-y}
 
--- `elementary::roots::guess` is safe: what it makes of bits is no NaN, nor is what it takes the bits of. Assumes nothing.
 pub float_from_bits-x : goal.float_from_bits-x
 float_from_bits-x c = no_nan_bits c.args.b (omega arith)
 
@@ -15,4 +16,4 @@ unfolding of_bits
 float_to_bits-digits c = no_nan _ c.if-y.true
 
 pub overflow_add-result : goal.overflow_add-result
-overflow_add-result c = ⊎_elim (λ w. omega arith) (λ w. omega arith) c.if-y.branch
+overflow_add-result c = elim c.if-y.branch [ then-y w ↦ omega arith | else-y w ↦ omega arith ]

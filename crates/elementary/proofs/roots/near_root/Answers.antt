@@ -1,15 +1,9 @@
-use Rattle.std.proofs.Common.{◌≡◌, ℕ, ◌+◌, ◌-◌, ◌*◌, ◌/◌, ◌%◌, ◌^◌, ◌<◌, ◌≤◌, sym, ⊎_elim, lt_of_lt_of_le, mul_assoc, pow-suc, add-one, arith, pow_mono}
+-- `elementary::roots::near_root` meets its contract: what a turn reads, and what was read after the last. Assumes nothing.
+use Rattle.std.proofs.Common.{◌≡◌, ℕ, ◌+◌, ◌*◌, ◌/◌, ◌%◌, ◌^◌, ◌<◌, ◌≤◌, sym, lt_of_lt_of_le, mul_assoc, pow-suc, add-one, arith, pow_mono}
 use Rattle.elementary.proofs.Whole.{square_twice, square_odd, near_up, near_down}
+use Rattle.elementary.proofs.roots.near_root.Invariants.{Inv}
 use Rattle.elementary.proofs.roots.near_root.Goals as goal
-
--- `elementary::roots::near_root` meets its contract. What was read of m, q * q + rem, and what was not, a, make up m * 4 ^ i. Assumes nothing.
-pub record Inv (m a q rem i : ℕ) : Type 0 where
-  pub turns : i ≤ 53
-  pub left : rem ≤ 2 * q
-  pub short : q < 2 ^ i
-  pub small : q < 2 ^ 53
-  pub unread : a < 2 ^ 54
-  pub made : m * 4 ^ i ≡ (q * q + rem) * 2 ^ 54 + a
+use Rattle.elementary.proofs.roots.near_root.Goals.{then-q-rem, else-q-rem}
 
 module _ {m a q rem i : ℕ} (v : Inv m a q rem i) where
   -- a turn reads two binary digits of a
@@ -27,11 +21,21 @@ module _ {m a q rem i : ℕ} (v : Inv m a q rem i) where
         made = omega arith;
       }
 
+  -- after the last all of m * 4 ^ 26 is read
+  whole : 53 ≤ i → m * 4 ^ 26 ≡ q * q + rem
+  whole h =
+      let e : i ≡ 53 = omega arith in
+      let f : m * 4 ^ 53 ≡ (q * q + rem) * 2 ^ 54 + a = rw e at v.made in
+      omega arith
+
 pub loop-i-preserved : goal.loop-i-preserved
 loop-i-preserved c =
     let z = c.loop-i in
     let next = again z.invariant {q' = c.if-q-rem.q} {rem' = c.if-q-rem.rem} c.loop-i-test.true in
-    ⊎_elim (λ w. next (omega (arith, square_odd z.q w.1)) (omega arith) (omega arith)) (λ w. next (omega (arith, square_twice z.q w.1)) (omega arith) (omega arith)) c.if-q-rem.branch
+    elim c.if-q-rem.branch [
+      | then-q-rem w ↦ next (omega (arith, square_odd z.q w.q-is)) (omega arith) (omega arith)
+      | else-q-rem w ↦ next (omega (arith, square_twice z.q w.q-is)) (omega arith) (omega arith)
+    ]
 
 pub returns-then-q-rem-2 : goal.returns-then-q-rem-2
 returns-then-q-rem-2 c =

@@ -1,9 +1,8 @@
+-- `elementary::roots::settled` meets its contract: t is m * 4 ^ 26 - q * q + q - 1, with 2 ^ 64 added where that is below 0, and `near_at` reads the nearest number from it. Assumes nothing.
 use Rattle.std.proofs.Common.{◌≡◌, ℕ, ◌+◌, ◌-◌, ◌*◌, ◌/◌, ◌%◌, ◌^◌, ◌<◌, ◌≤◌, sym, ap, ◌∙◌, mul-le-mul, arith}
 use Rattle.elementary.proofs.Whole.{square_split, square_suc, near_at}
 use Rattle.elementary.proofs.roots.settled.Goals as goal
-use Rattle.elementary.proofs.roots.settled.Goals.{After-wrapping_sub_u64-a, After-wrapping_sub_u64-b, After-wrapping_sub_u64-t}
 
--- `elementary::roots::settled` meets its contract: t is m * 4 ^ 26 - q * q + q - 1, with 2 ^ 64 added where that is below 0, and `near_at` reads the nearest number from it. Assumes nothing.
 -- a product of two numbers of at most 27 binary digits
 short : (a b : ℕ) → a < 2 ^ 27 → b < 2 ^ 27 → a * b ≤ 2 ^ 54
 short a b h k = mul-le-mul {n₂ = 2 ^ 27} {m₂ = 2 ^ 27} (omega arith) (omega arith)
@@ -20,27 +19,10 @@ lent m q a b hm hq ha hb ea eb =
     (omega (arith, square_split q), short (q % 2 ^ 27) (q % 2 ^ 27) (omega arith) (omega arith))
 
 -- the square of the number below q
-square-less : (q : ℕ) → 0 < q → q * q ≡ (q - 1) * (q - 1) + 2 * (q - 1) + 1
-square-less q h =
+square_less : (q : ℕ) → 0 < q → q * q ≡ (q - 1) * (q - 1) + 2 * (q - 1) + 1
+square_less q h =
     let e : q ≡ q - 1 + 1 = omega arith in
     ap (λ z. z * z) e ∙ square_suc (q - 1)
-
--- from a step of the three to the one before it, and from the first to the start
-abbrev second : After-wrapping_sub_u64-t → tie.After-wrapping-sub-u642
-second c = c
-
-abbrev first : After-wrapping_sub_u64-b → tie.After-wrapping-sub-u64
-first c = c
-
-abbrev start : After-wrapping_sub_u64-a → tie.Start
-start c = c
-
-left : (c : After-wrapping_sub_u64-t) → let x = (start (first (second c))).args in Lent x.m x.q (second c).wrapping_sub_u64-b.result
-left c =
-    let b = second c in
-    let a = first b in
-    let x = (start a).args in
-    lent x.m x.q a.wrapping_sub_u64-a.result b.wrapping_sub_u64-b.result (omega arith) (omega arith) (omega arith) (omega arith) a.wrapping_sub_u64-a.ensures b.wrapping_sub_u64-b.ensures
 
 pub overflow_mul-h : goal.overflow_mul-h
 overflow_mul-h c = let q = c.args.q in omega (arith, short (q / 2 ^ 27) (q / 2 ^ 27) (omega arith) (omega arith))
@@ -49,25 +31,28 @@ pub overflow_mul-h-2 : goal.overflow_mul-h-2
 overflow_mul-h-2 c = let q = c.args.q in omega (arith, short (q / 2 ^ 27) (q / 2 ^ 27) (omega arith) (omega arith))
 
 pub overflow_mul-h-3 : goal.overflow_mul-h-3
-overflow_mul-h-3 c = let q = (start c).args.q in omega (arith, short (q / 2 ^ 27) (q % 2 ^ 27) (omega arith) (omega arith))
+overflow_mul-h-3 c = let q = c.args.q in omega (arith, short (q / 2 ^ 27) (q % 2 ^ 27) (omega arith) (omega arith))
 
 pub overflow_mul-l : goal.overflow_mul-l
-overflow_mul-l c = let q = (start (first c)).args.q in omega (arith, short (q % 2 ^ 27) (q % 2 ^ 27) (omega arith) (omega arith))
+overflow_mul-l c = let q = c.args.q in omega (arith, short (q % 2 ^ 27) (q % 2 ^ 27) (omega arith) (omega arith))
 
 pub overflow_add-l : goal.overflow_add-l
-overflow_add-l c = let q = (start (first c)).args.q in omega (arith, short (q % 2 ^ 27) (q % 2 ^ 27) (omega arith) (omega arith))
+overflow_add-l c = let q = c.args.q in omega (arith, short (q % 2 ^ 27) (q % 2 ^ 27) (omega arith) (omega arith))
 
 pub returns-then-t-q : goal.returns-then-t-q
 returns-then-t-q c =
-    let x = (start (first (second c))).args in
-    λ _. sym (near_at (x.m * 4 ^ 26) x.q (omega arith) (omega (arith, left c)) (omega (arith, left c)))
+    let x = c.args in
+    let l = lent x.m x.q c.wrapping_sub_u64-a.result c.wrapping_sub_u64-b.result (omega arith) (omega arith) (omega arith) (omega arith) c.wrapping_sub_u64-a.ensures.value c.wrapping_sub_u64-b.ensures.value in
+    λ _. sym (near_at (x.m * 4 ^ 26) x.q (omega arith) (omega (arith, l)) (omega (arith, l)))
 
 pub returns-then-t-q-2 : goal.returns-then-t-q-2
 returns-then-t-q-2 c =
-    let x = (start (first (second c))).args in
-    λ _. sym (near_at (x.m * 4 ^ 26) (x.q + 1) (omega arith) (omega (arith, left c, square_suc x.q)) (omega (arith, left c, square_suc x.q)))
+    let x = c.args in
+    let l = lent x.m x.q c.wrapping_sub_u64-a.result c.wrapping_sub_u64-b.result (omega arith) (omega arith) (omega arith) (omega arith) c.wrapping_sub_u64-a.ensures.value c.wrapping_sub_u64-b.ensures.value in
+    λ _. sym (near_at (x.m * 4 ^ 26) (x.q + 1) (omega arith) (omega (arith, l, square_suc x.q)) (omega (arith, l, square_suc x.q)))
 
 pub returns-then-t-q-3 : goal.returns-then-t-q-3
 returns-then-t-q-3 c =
-    let x = (start (first (second c))).args in
-    λ _. sym (near_at (x.m * 4 ^ 26) (x.q - 1) (omega arith) (omega (arith, left c, square-less x.q (omega arith))) (omega (arith, left c, square-less x.q (omega arith))))
+    let x = c.args in
+    let l = lent x.m x.q c.wrapping_sub_u64-a.result c.wrapping_sub_u64-b.result (omega arith) (omega arith) (omega arith) (omega arith) c.wrapping_sub_u64-a.ensures.value c.wrapping_sub_u64-b.ensures.value in
+    λ _. sym (near_at (x.m * 4 ^ 26) (x.q - 1) (omega arith) (omega (arith, l, square_less x.q (omega arith))) (omega (arith, l, square_less x.q (omega arith))))
