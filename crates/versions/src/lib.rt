@@ -1,5 +1,7 @@
 // The versions of the format of point sheets (specs/Versions.antt): all that depends on them stands
 // here.
+#![tactic(auto)]
+
 ghost use Rattle.std.specs.Prelude.{◌≡◌};
 ghost use Rattle.versions.specs.Versions.{known, allowed, version_for};
 

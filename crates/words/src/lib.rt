@@ -1,5 +1,7 @@
 // Little-endian numbers in a slice of bytes (specs/Words.antt). Past the end of a slice every byte
 // counts as 0.
+#![tactic(auto)]
+
 ghost use Rattle.std.specs.Prelude.{◌≡◌, ◌<◌, get_or};
 ghost use Rattle.words.specs.Words.{u32_at, u64_at, word_of};
 
