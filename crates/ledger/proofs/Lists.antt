@@ -1,10 +1,10 @@
 -- What owning a desk tells of its lists: 32 rows and 8 counts, and the row that the code reads is the model's. Assumes nothing.
 use Prim.Native.Nat.{ℕ, zero, suc, ◌*◌, ◌<◌}
-use mathlib.Core.Path.{◌≡◌, refl, sym, ap, ◌∙◌}
+use mathlib.Core.Path.{◌≡◌, refl, ap, ◌∙◌}
 use mathlib.Core.Bool.{Bool}
-use mathlib.Core.List.{List, [], ◌∷◌, map}
+use mathlib.Core.List.{List, [], ◌∷◌}
 use native.Mathlib.Omega.{arith}
-use lib.ListN.{length, get_or, replicate, length-map}
+use lib.ListN.{length, get_or, replicate}
 use mir.Syntax.{w64}
 use mir.Val.{Val, Fits}
 use denote.Laws.{Is}
@@ -13,9 +13,6 @@ use Rattle.ledger.specs.contracts.Desk as DeskT
 use Rattle.ledger.specs.declared.Row.{Row}
 use Rattle.ledger.specs.declared.Desk.{Desk}
 use Rattle.ledger.specs.Rows.{blank, row}
-
-mapped : {X Y : Type 0} (f : X → Y) (l : List X) (n : ℕ) → length (map f l) ≡ n → length l ≡ n
-mapped f l n e = sym (length-map l f) ∙ e
 
 -- a list of noughts
 pub noughts : (n c : ℕ) → get_or {A = ℕ} (replicate n 0) c 0 ≡ 0
@@ -38,10 +35,10 @@ count_fits c h = omega arith
 
 module _ (d : Desk) (vs : List Val) (own : Is (owned DeskT.the_type) d vs) where
   pub rows_long : length d.rows ≡ 32
-  rows_long = mapped _ d.rows 32 own.1.1.0.1.0.1
+  rows_long = own.1.1.0.1.0.1
 
   pub counts_long : length d.counts ≡ 8
-  counts_long = mapped _ d.counts 8 own.1.1.1.0.1.0.1
+  counts_long = own.1.1.1.0.1.0.1
 
   pub row_is : (i : ℕ) (r : Row) → i < 32 → row d i ≡ get_or d.rows i r
   unfolding row

@@ -1,7 +1,7 @@
 -- What the tests on a row say, as facts, and back. Assumes nothing.
 use mathlib.Core.Path.{◌≡◌, refl, sym, ◌∙◌}
 use mathlib.Core.Logic.{◌≢◌}
-use mathlib.Core.Bool.{Bool, true, false, not, ◌&&◌}
+use mathlib.Core.Bool.{Bool, true, false, ◌&&◌}
 use mathlib.Core.List.{List}
 use Prim.Native.Nat.{ℕ, ◌≤◌, ◌<◌}
 use native.Mathlib.Omega.{arith}
@@ -119,8 +119,8 @@ module _ (counts : List ℕ) (r : Row) where
       }
 
   -- what the code is told of it
-  pub told_right : (b : Bool) → b ≡ row_right counts r → not b ≡ false → Right counts r
-  told_right b a n = right_is (sym a ∙ not-false b n)
+  pub told_right : (b : Bool) → b ≡ row_right counts r → b ≡ true → Right counts r
+  told_right b a n = right_is (sym a ∙ n)
 
   pub is_right : Right counts r → row_right counts r ≡ true
   unfolding row_right

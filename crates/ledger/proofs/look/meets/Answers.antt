@@ -1,3 +1,4 @@
+-- `ledger::look::meets` meets its contract: a case for each row that can be looked for, and in it the tests in their order. Assumes nothing.
 use mathlib.Core.Path.{refl}
 use borrow.Author.Rules.{rules}
 use borrow.Author.Tests.{eq-eqb, ne_eqb}
@@ -6,7 +7,7 @@ use Rattle.ledger.proofs.look.meets.Goals as goal
 
 pub returns-then-r : goal.returns-then-r
 unfolding unfinished
-returns-then-r c = rw (c.enum_told-in-Unfinished-1.given.1, c.if-r.true) refl
+returns-then-r c = rw (c.in-Unfinished.is, c.if-r.true) refl
 
 pub returns-then-r-caller : goal.returns-then-r-caller
 unfolding held

@@ -1,10 +1,8 @@
+-- `ledger::sound::counts_right` meets its contract: each count passed is right, and the first that is not settles it. Assumes nothing.
 use native.Mathlib.Omega.{arith}
 use borrow.Author.Rules.{rules}
 use mathlib.Core.Path.{◌≡◌, refl, sym}
-use mathlib.Core.Bool.{true}
-use Prim.Native.Nat.{◌-◌}
 use borrow.Author.Tests.{le-leb, lt-leb}
-use lib.Dec.{leb}
 use Rattle.ledger.specs.Search.{upto}
 use Rattle.ledger.specs.Rows.{counts_right}
 use Rattle.ledger.proofs.Search.{upto_fails, upto_more}
@@ -23,6 +21,6 @@ loop-i-preserved c = (omega arith, upto_more _ _ c.loop-i.invariant.1 (le-leb _ 
 
 pub returns : goal.returns
 unfolding counts_right
-returns-then-counts-i-gt-TICKETS c =
+returns c =
     let e : c.loop-i.i ≡ 8 = omega arith in
     sym (rw e at c.loop-i.invariant.1)

@@ -1,3 +1,4 @@
+-- `ledger::sound::is_nameable` meets its contract: a test for each bound, in their order. Assumes nothing.
 use mathlib.Core.Path.{◌≡◌, refl}
 use mathlib.Core.Bool.{false}
 use lib.Dec.{leb}
@@ -5,11 +6,10 @@ use borrow.Author.Tests.{le-leb, lt-leb}
 use Rattle.ledger.specs.Rows.{nameable}
 use Rattle.ledger.proofs.sound.is_nameable.Goals as goal
 
--- `ledger::sound::is_nameable` meets its contract: a test for each bound, in their order. Assumes nothing.
 pub returns-then-number-lt10 : goal.returns-then-number-lt10
 unfolding nameable
 returns-then-number-lt10 c = let below : leb 10 c.args.number ≡ false = lt-leb _ _ c.if-number-lt10.true in rw below refl
 
 pub returns : goal.returns
 unfolding nameable
-returns-then-number-lt10 c = rw (le-leb _ _ c.if-number-lt10.false) refl
+returns c = rw (le-leb _ _ c.if-number-lt10.false) refl

@@ -1,7 +1,8 @@
+-- `ledger::sound::noted` meets its contract: none of the places passed holds t, and the first that does settles it. Assumes nothing.
 use native.Mathlib.Omega.{arith}
 use borrow.Author.Rules.{rules}
 use mathlib.Core.Path.{◌≡◌, refl, sym, ◌∙◌}
-use Prim.Native.Nat.{◌-◌, ◌+◌, ◌*◌}
+use Prim.Native.Nat.{◌+◌, ◌*◌}
 use borrow.Author.Tests.{eq-eqb, ne_eqb, lt-ltb, le-ltb}
 use lib.Dec.{eqb}
 use lib.ListN.{get_or}
@@ -23,7 +24,7 @@ loop-k-preserved c = (omega arith, count_no _ _ (ne_eqb _ _ c.if-tickets-caller.
 
 pub returns : goal.returns
 unfolding among often
-returns-then-tickets-caller c =
+returns c =
     let e : c.loop-k.k ≡ 3 = omega arith in
     let z = rw e at c.loop-k.invariant.1 in
     let s = c.args in

@@ -1,3 +1,4 @@
+-- `ledger::sound::noted` meets its contract: none of the places passed holds t, and the first that does settles it. Assumes nothing.
 use mathlib.Core.Path.{◌≡◌}
 use Prim.Native.Nat.{◌≤◌, ◌-◌, ◌+◌, ◌*◌}
 use lib.Dec.{eqb}
@@ -5,7 +6,6 @@ use lib.ListN.{get_or}
 use Rattle.ledger.specs.Search.{count}
 use Rattle.ledger.proofs.sound.noted.Given as goal
 
--- `ledger::sound::noted` meets its contract: none of the places passed holds t, and the first that does settles it. Assumes nothing.
 abbrev pub invariant-loop-k : goal.invariant-loop-k
 invariant-loop-k l = (l.k ≤ 3) × (count (λ j. eqb (get_or l.tickets (l.caller + 8 * j) 0) l.t) l.k ≡ 0)
 

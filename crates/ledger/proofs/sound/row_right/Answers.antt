@@ -1,11 +1,10 @@
+-- `ledger::sound::row_right` meets its contract: each refusal denies one of the facts of `Right`, and past the last test they all hold. Assumes nothing.
 use mathlib.Core.Path.{sym, ◌∙◌}
 use Prim.Native.Nat.{suc-le-suc}
-use borrow.Author.Tests.{not-true, not-false}
 use Rattle.ledger.proofs.Tests.{never, not_named, not_right, last_right}
 use Rattle.ledger.proofs.Lists.{count_fits}
 use Rattle.ledger.proofs.sound.row_right.Goals as goal
 
--- `ledger::sound::row_right` meets its contract: each refusal denies one of the facts of `Right`, and past the last test they all hold. Assumes nothing.
 pub returns-then-caller-gt7 : goal.returns-then-caller-gt7
 returns-then-caller-gt7 c = sym (not_right _ _ (λ f. never _ _ f.known c.if-caller-gt7.true))
 
@@ -31,9 +30,9 @@ pub returns-then-r-gt3 : goal.returns-then-r-gt3
 returns-then-r-gt3 c = sym (not_right _ _ (λ f. never _ _ c.if-r-gt3.true f.kind_high))
 
 pub returns-then-not-is_nameable : goal.returns-then-not-is_nameable
-returns-then-not-is_nameable c = sym (not_right _ _ (not_named _ _ (sym c.is_nameable.ensures ∙ not-true _ c.if-not-is_nameable.true)))
+returns-then-not-is_nameable c = sym (not_right _ _ (not_named _ _ (sym c.is_nameable.ensures ∙ c.if-not-is_nameable.true)))
 
 pub returns : goal.returns
-returns-then-caller-gt7 c =
+returns c =
     sym (last_right _ _ (suc-le-suc c.if-caller-gt7.false) c.if-counts-caller.false c.if-r-lt1.false c.if-r-gt2.false c.if-r-lt2.false c.if-r-gt3.false
-    (sym c.is_nameable.ensures ∙ not-false _ c.if-not-is_nameable.false))
+    (sym c.is_nameable.ensures ∙ c.if-not-is_nameable.false))

@@ -1,7 +1,7 @@
+-- `ledger::sound::rows_right` meets its contract: what the pass has noted is what `Passed` says, and each row that comes next is one of its laws. Assumes nothing.
 use native.Mathlib.Omega.{arith}
 use mathlib.Core.Path.{sym, ◌∙◌}
-use Prim.Native.Nat.{◌-◌, suc-le-suc}
-use borrow.Author.Tests.{not-true}
+use Prim.Native.Nat.{suc-le-suc}
 use Rattle.ledger.proofs.Tests.{told_right}
 use Rattle.ledger.proofs.Lists.{row_fits, count_fits, row_is}
 use Rattle.ledger.proofs.Pass.{bytes_fit, passed_none, passed_empty, passed_filled, passed_all, wrong_row, fifth_row, ticket_again}
@@ -19,32 +19,32 @@ bounds-d-i c = c.loop-i-test.true
 pub returns-then-not-row_right : goal.returns-then-not-row_right
 returns-then-not-row_right c =
     let h = c.loop-i-test.true in
-    let same = row_is c.args.d _ c.well-formed.0 c.loop-i.i _ h in
-    let wrong = sym c.row-right.ensures ∙ not-true _ c.if-not-row_right.true in
-    sym (wrong_row c.args.d c.loop-i.i c.loop-i.tickets-1 c.loop-i.next c.loop-i.invariant h _ same c.if-r.true wrong)
+    let same = row_is c.args.d _ c.well_formed.0 c.loop-i.i _ h in
+    let wrong = sym c.row_right.ensures ∙ c.if-not-row_right.true in
+    sym (wrong_row c.args.d c.loop-i.i c.loop-i.tickets c.loop-i.next c.loop-i.invariant h _ same c.if-r.true wrong)
 
 pub offset_bounds-next-c : goal.offset_bounds-next-c
-offset_bounds-next-c c = count_fits _ (told_right _ _ _ c.row-right.ensures c.if-not-row_right.false).known
+offset_bounds-next-c c = count_fits _ (told_right _ _ _ c.row_right.ensures c.if-not-row_right.false).known
 
 pub bounds-next-c : goal.bounds-next-c
-bounds-next-c c = (told_right _ _ _ c.row-right.ensures c.if-not-row_right.false).known
+bounds-next-c c = (told_right _ _ _ c.row_right.ensures c.if-not-row_right.false).known
 
 pub returns-then-place-gt31 : goal.returns-then-place-gt31
 returns-then-place-gt31 c =
     let h = c.loop-i-test.true in
-    let same = row_is c.args.d _ c.well-formed.0 c.loop-i.i _ h in
-    let known = (told_right _ _ _ c.row-right.ensures c.if-not-row_right.false).known in
-    sym (fifth_row c.args.d c.loop-i.i c.loop-i.tickets-1 c.loop-i.next c.loop-i.invariant h _ same c.if-r.true known c.if-place-gt31.true)
+    let same = row_is c.args.d _ c.well_formed.0 c.loop-i.i _ h in
+    let known = (told_right _ _ _ c.row_right.ensures c.if-not-row_right.false).known in
+    sym (fifth_row c.args.d c.loop-i.i c.loop-i.tickets c.loop-i.next c.loop-i.invariant h _ same c.if-r.true known c.if-place-gt31.true)
 
 pub noted-requires : goal.noted-requires
-noted-requires c = (told_right _ _ _ c.row-right.ensures c.if-not-row_right.false).known
+noted-requires c = (told_right _ _ _ c.row_right.ensures c.if-not-row_right.false).known
 
 pub returns-then-noted : goal.returns-then-noted
 returns-then-noted c =
     let h = c.loop-i-test.true in
-    let same = row_is c.args.d _ c.well-formed.0 c.loop-i.i _ h in
-    let told = told_right _ _ _ c.row-right.ensures c.if-not-row_right.false in
-    sym (ticket_again c.args.d c.loop-i.i c.loop-i.tickets-1 c.loop-i.next c.loop-i.invariant h _ same c.if-r.true c.requires told c.if-place-gt31.false _ c.noted.ensures c.if-noted.true)
+    let same = row_is c.args.d _ c.well_formed.0 c.loop-i.i _ h in
+    let told = told_right _ _ _ c.row_right.ensures c.if-not-row_right.false in
+    sym (ticket_again c.args.d c.loop-i.i c.loop-i.tickets c.loop-i.next c.loop-i.invariant h _ same c.if-r.true c.requires told c.if-place-gt31.false _ c.noted.ensures c.if-noted.true)
 
 pub offset_bounds-tickets-place : goal.offset_bounds-tickets-place
 offset_bounds-tickets-place c = bytes_fit _ c.if-place-gt31.false
@@ -57,24 +57,24 @@ overflow_add-next c = let room = c.if-place-gt31.false in omega arith
 
 pub offset_bounds-next-c-then-r : goal.offset_bounds-next-c-then-r
 offset_bounds-next-c-then-r c =
-    count_fits _ (told_right _ _ _ c.row-right.ensures c.if-not-row_right.false).known
+    count_fits _ (told_right _ _ _ c.row_right.ensures c.if-not-row_right.false).known
 
 pub bounds-next-c-then-r : goal.bounds-next-c-then-r
 bounds-next-c-then-r c =
-    (told_right _ _ _ c.row-right.ensures c.if-not-row_right.false).known
+    (told_right _ _ _ c.row_right.ensures c.if-not-row_right.false).known
 
 pub loop-i-preserved-then-r : goal.loop-i-preserved-then-r
 loop-i-preserved-then-r c =
     let h = c.loop-i-test.true in
-    let same = row_is c.args.d _ c.well-formed.0 c.loop-i.i _ h in
-    let told = told_right _ _ _ c.row-right.ensures c.if-not-row_right.false in
-    passed_filled c.args.d c.loop-i.i c.loop-i.tickets-1 c.loop-i.next c.loop-i.invariant h _ same c.if-r.true c.requires told c.if-place-gt31.false _ c.noted.ensures c.if-noted.false
+    let same = row_is c.args.d _ c.well_formed.0 c.loop-i.i _ h in
+    let told = told_right _ _ _ c.row_right.ensures c.if-not-row_right.false in
+    passed_filled c.args.d c.loop-i.i c.loop-i.tickets c.loop-i.next c.loop-i.invariant h _ same c.if-r.true c.requires told c.if-place-gt31.false _ c.noted.ensures c.if-noted.false
 
 pub loop-i-preserved : goal.loop-i-preserved
 loop-i-preserved c =
     let h = c.loop-i-test.true in
-    let same = row_is c.args.d _ c.well-formed.0 c.loop-i.i _ h in
-    passed_empty c.args.d c.loop-i.i c.loop-i.tickets-1 c.loop-i.next c.loop-i.invariant h _ same c.if-r.false
+    let same = row_is c.args.d _ c.well_formed.0 c.loop-i.i _ h in
+    passed_empty c.args.d c.loop-i.i c.loop-i.tickets c.loop-i.next c.loop-i.invariant h _ same c.if-r.false
 
 pub returns : goal.returns
-returns-then-not-row_right c = sym (passed_all _ _ _ _ c.loop-i.invariant c.loop-i-test.false)
+returns c = sym (passed_all _ _ _ _ c.loop-i.invariant c.loop-i-test.false)
