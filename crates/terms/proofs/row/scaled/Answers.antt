@@ -15,7 +15,7 @@ loop-k-init c = let z : c.args.d - 0 ≡ c.args.d = omega arith in (omega arith,
 pub loop-k-preserved : goal.loop-k-preserved
 loop-k-preserved c =
     let w = c.lowered in
-    let e : to_z w16 (of_z w16 w.result) ≡ to_z w8 (of_z w8 c.args.e) -ℤ pos c.loop-k.k = to_z-of_z {w = w16} (record { sfits = w.type-inv }) ∙ w.ensures in
+    let e : to_z w16 (of_z w16 w.result) ≡ to_z w8 (of_z w8 c.args.e) -ℤ pos c.loop-k.k = to_z-of_z {w = w16} (record { sfits = w.type_inv }) ∙ w.ensures in
     (omega arith, rw e (scaled_next c.loop-k.f (to_z w8 (of_z w8 c.args.e)) c.loop-k.k c.args.d c.loop-k-test.true c.loop-k.invariant.1))
 
 pub returns : goal.returns

@@ -1,14 +1,12 @@
 use Prim.Native.Nat.{◌≤◌, ◌-◌}
 use mathlib.Core.Path.{◌≡◌}
-use lib.IntN.{ℤ, pos, ◌-ℤ◌}
-use mir.Syntax.{w8}
-use mir.Val.{to_z}
+use lib.IntN.{pos, ◌-ℤ◌}
 use Rattle.terms.specs.Sum.{scaled}
 use Rattle.terms.proofs.row.scaled.Given as goal
 
 -- `terms::row::scaled` meets its contract: the factors still to come, put to the product so far, give the whole product. Assumes nothing.
 abbrev pub invariant-loop-k : goal.invariant-loop-k
-invariant-loop-k l = (l.k ≤ l.d) × (scaled l.f (to_z w8 l.e -ℤ pos l.k) (l.d - l.k) ≡ scaled l.n (to_z w8 l.e) l.d)
+invariant-loop-k l = (l.k ≤ l.d) × (scaled l.f (l.e -ℤ pos l.k) (l.d - l.k) ≡ scaled l.n (l.e) l.d)
 
 abbrev pub decreases-loop-k : goal.decreases-loop-k
 decreases-loop-k l = l.d - l.k

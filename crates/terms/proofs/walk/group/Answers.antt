@@ -1,4 +1,7 @@
-use Prim.Native.Nat.{◌<◌, ◌-◌}
+use Prim.Native.Nat.{ℕ, ◌<◌, ◌≤◌}
+use mathlib.Core.List.{List}
+use lib.IntN.{ℤ}
+use lib.Ieee.{Float}
 use mathlib.Core.Path.{◌≡◌, refl}
 use native.Mathlib.Omega.{arith}
 use lib.ListN.{length}
@@ -7,26 +10,25 @@ use mir.Facts.{to_z-of_z}
 use Rattle.terms.specs.Sum.{rows}
 use Rattle.terms.proofs.Table.{rows_within, six_next}
 use Rattle.terms.proofs.walk.group.Goals as goal
-use Rattle.terms.proofs.walk.group.Goals.{In-loop-l}
 
 pub loop-l-init : goal.loop-l-init
 loop-l-init c = (c.requires.0, refl)
 
-within : (c : In-loop-l → let s = c in
-    (c.loop-l.l < length s.args.n.now) × (c.loop-l.l < length s.args.i.now) × (c.loop-l.l < length s.args.j.now)
-within c = rows_within c.args.n.now c.args.i.now c.args.j.now c.loop-l.l (omega (arith, c.requires.1))
+-- a row below e is a row of each slice
+within : (n : List Float) (i j : List ℤ) {e l : ℕ} → e ≤ length (rows n i j) → l < e → (l < length n) × (l < length i) × (l < length j)
+within n i j {e} {l} h k = rows_within n i j l (omega arith)
 
 pub bounds-i-l : goal.bounds-i-l
-bounds-i-l c = (within c).1
+bounds-i-l c = (within c.args.n.now c.args.i.now c.args.j.now c.requires.1 c.loop-l-test.true).1
 
 pub bounds-j-l : goal.bounds-j-l
-bounds-j-l c = (within c).2
+bounds-j-l c = (within c.args.n.now c.args.i.now c.args.j.now c.requires.1 c.loop-l-test.true).2
 
 pub offset_bounds-n-l : goal.offset_bounds-n-l
-offset_bounds-n-l c = omega (arith, within c)
+offset_bounds-n-l c = omega (arith, within c.args.n.now c.args.i.now c.args.j.now c.requires.1 c.loop-l-test.true)
 
 pub bounds-n-l : goal.bounds-n-l
-bounds-n-l c = (within c).0
+bounds-n-l c = (within c.args.n.now c.args.i.now c.args.j.now c.requires.1 c.loop-l-test.true).0
 
 pub loop-l-preserved : goal.loop-l-preserved
 loop-l-preserved c =
