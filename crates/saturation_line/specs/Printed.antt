@@ -2,7 +2,6 @@
 use Rattle.std.specs.Prelude.{pos, Float}
 use Rattle.std.specs.Float.Ieee.{neg}
 use Rattle.arith.specs.F64.{f64, ◌⊕◌, ◌⊖◌, ◌⊗◌, ◌⊘◌}
-use Rattle.arith.specs.Printed.{less}
 use Rattle.elementary.specs.Root.{root_of, fourth_root_of}
 use Rattle.arith.specs.Coefficients.{plus, minus}
 

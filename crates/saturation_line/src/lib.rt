@@ -1,6 +1,8 @@
 // The saturation line, region 4 of IAPWS-IF97 (002): the saturation pressure, which tells where it stands,
 // and the saturation temperature. Every call takes every number; what it answers is said in specs/. p in
 // MPa, T in K.
+#![tactic(auto)]
+
 mod pressure;
 mod printed;
 
