@@ -1,5 +1,7 @@
 // The basic equations by the regions that they belong to, and the phases that backward equations reach
 // (specs/Equations.antt).
+#![tactic(auto)]
+
 mod names;
 
 pub use names::{equation_of, is_of, region_of};
