@@ -1,6 +1,5 @@
 -- A value that an answer may lack, as a column of a line. Definitions only.
 use Rattle.text.specs.declared.Cell.{Cell}
-use Rattle.text.specs.declared.Cell.TheVariants as Cell
 use Rattle.properties.specs.declared.Value.{Value}
 use Rattle.properties.specs.declared.Value.TheVariants.{Is, Missing}
 

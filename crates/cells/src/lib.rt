@@ -1,4 +1,6 @@
 // A value that an answer may lack, as a column of a line (specs/Cells.antt).
+#![tactic(auto)]
+
 ghost use Rattle.std.specs.Prelude.{◌≡◌};
 ghost use Rattle.cells.specs.Cells.{cell_of};
 

@@ -1,4 +1,6 @@
 // The lines of a desk: its pointer and counts, and a line for each row that is filled (specs/Lines.antt).
+#![tactic(auto)]
+
 ghost use Rattle.text.specs.Room.{Written};
 ghost use Rattle.desk_lines.specs.Lines.{count_columns, desk_line, row_line, shown_lines};
 

@@ -1,0 +1,9 @@
+use mathlib.Core.Path.{refl}
+use Rattle.cells.proofs.cell.Goals as goal
+
+-- `cells::cell` meets its contract, case by case. Assumes nothing.
+pub returns-in-Is : goal.returns-in-Is
+returns-in-Is c = rw c.in-Is.is refl
+
+pub returns-in-Missing : goal.returns-in-Missing
+returns-in-Missing c = rw c.in-Missing.is refl
