@@ -1,6 +1,8 @@
 // A run of desk calls in bytes, read record by record. A record is six little-endian u64s, op, caller,
 // a, b, c and d; the desk that op 6 gives stands behind its record as 361 more. What is read is said in
 // specs/Records.antt.
+#![tactic(auto)]
+
 mod deeds;
 mod desks;
 
