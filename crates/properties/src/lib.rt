@@ -1,6 +1,8 @@
 // The properties of a single-phase state, and how they come from γ in regions 1, 2 and 5: 002, Tables 2
 // and 4 (specs/Properties.antt). Every call takes every number; what it answers is said in specs/.
 // Units: p in MPa, T in K, v in m³/kg, u and h in kJ/kg, s and cp in kJ/(kg K), w in m/s.
+#![tactic(auto)]
+
 mod gibbs;
 
 pub use gibbs::{enthalpy, entropy, from_gamma, reduced, rooted};

@@ -1,8 +1,8 @@
+-- `brackets::half` meets its contract: the test chooses the end that moves, as in `half_of`. Assumes nothing.
 use mathlib.Core.Path.{refl}
 use Rattle.brackets.specs.Brackets.{half_of}
 use Rattle.brackets.proofs.half.Goals as goal
 
--- `brackets::half` meets its contract: the test chooses the end that moves, as in `half_of`. Assumes nothing.
 pub returns-then-below : goal.returns-then-below
 unfolding half_of
 returns-then-below c = rw (← c.middle-mid.ensures, c.if-below.true) refl

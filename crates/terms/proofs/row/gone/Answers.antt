@@ -1,3 +1,4 @@
+-- `terms::row::gone` meets its contract: the test is the definition's, read at the width of i16. Assumes nothing.
 use mathlib.Core.Bool.{false}
 use mathlib.Core.Path.{◌≡◌, sym, subst}
 use lib.IntN.{ℤ, pos}
@@ -10,7 +11,6 @@ use Rattle.terms.specs.Sum.{gone}
 use Rattle.terms.proofs.Exponents.{order}
 use Rattle.terms.proofs.row.gone.Goals as goal
 
--- `terms::row::gone` meets its contract: the test is the definition's, read at the width of i16. Assumes nothing.
 pub overflow_cast-result : goal.overflow_cast-result
 overflow_cast-result c = subst (SFits w16) (sym (to_z-of_z c.ranges.e)) (sfits_widen {w = w8} {w' = w16} tt c.ranges.e)
 

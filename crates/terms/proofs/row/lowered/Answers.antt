@@ -1,3 +1,4 @@
+-- `terms::row::lowered` meets its contract: neither cast changes a value, and the difference stays below 384. Assumes nothing.
 use mathlib.Core.Path.{◌≡◌, sym, ap₂, subst, ◌∙◌}
 use lib.IntN.{pos, ◌-ℤ◌}
 use mir.Syntax.{w8, w16}
@@ -8,7 +9,6 @@ use Rattle.terms.proofs.Exponents.{lowered_fits, order}
 use Rattle.terms.proofs.row.lowered.Goals as goal
 use Rattle.terms.proofs.row.lowered.Goals.{Start}
 
--- `terms::row::lowered` meets its contract: neither cast changes a value, and the difference stays below 384. Assumes nothing.
 pub overflow_cast-result : goal.overflow_cast-result
 overflow_cast-result c = subst (SFits w16) (sym (to_z-of_z c.ranges.e)) (sfits_widen {w = w8} {w' = w16} tt c.ranges.e)
 

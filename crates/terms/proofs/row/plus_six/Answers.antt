@@ -1,3 +1,4 @@
+-- `terms::row::plus_six` meets its contract: each sum gets the row's term of its orders. Assumes nothing.
 use mathlib.Core.Path.{refl, ap, ◌∙◌}
 use lib.Ieee.{Float}
 use mir.Syntax.{w8}
@@ -8,7 +9,6 @@ use Rattle.terms.specs.Six.{plus_six}
 use Rattle.terms.proofs.Terms.{added}
 use Rattle.terms.proofs.row.plus_six.Goals as goal
 
--- `terms::row::plus_six` meets its contract: each sum gets the row's term of its orders. Assumes nothing.
 pub returns : goal.returns
 unfolding plus_six scaled
 returns c =

@@ -1,3 +1,4 @@
+-- `terms::walk::count` meets its contract: rows go as far as the shortest slice. Assumes nothing.
 use Prim.Native.Nat.{min}
 use mathlib.Core.Path.{ap, ◌∙◌}
 use lib.ListN.{length}

@@ -1,3 +1,4 @@
+-- `terms::walk::six_sums` meets its contract: after k rows, the six sums of what is left, begun at s, are the whole sums. Assumes nothing.
 use Prim.Native.Nat.{◌≤◌, ◌-◌}
 use mathlib.Core.Path.{◌≡◌}
 use lib.ListN.{length, drop}
@@ -5,7 +6,6 @@ use Rattle.terms.specs.Sum.{rows}
 use Rattle.terms.specs.Six.{six_of, six_from}
 use Rattle.terms.proofs.walk.six_sums.Given as goal
 
--- `terms::walk::six_sums` meets its contract: after k rows, the six sums of what is left, begun at s, are the whole sums. Assumes nothing.
 abbrev pub invariant-loop-k : goal.invariant-loop-k
 invariant-loop-k l = (l.k ≤ length (rows l.n l.i l.j)) × (six_from l.a l.b l.s (drop l.k (rows l.n l.i l.j)) ≡ six_of (rows l.n l.i l.j) l.a l.b)
 

@@ -1,3 +1,4 @@
+-- `terms::walk::sum` meets its contract: it is the first of the six. Assumes nothing.
 use mathlib.Core.Path.{ap}
 use Rattle.terms.specs.Six.{six_of}
 use Rattle.terms.specs.declared.Six.{Six}
