@@ -1,6 +1,8 @@
 // The boundaries B23, between regions 2 and 3, and 2bc, between subregions 2b and 2c: 002, Eqs. (10), (11)
 // and (41), Tables A1 and A20 (specs/Boundaries.antt). Every call takes every number. p in MPa, T in K, h in
 // kJ/kg.
+#![tactic(auto)]
+
 ghost use Rattle.std.specs.Prelude.{◌≡◌};
 ghost use Rattle.boundaries.specs.Boundaries.{quadratic, p_b23, t_b23, p2bc};
 
