@@ -4,6 +4,8 @@
 ghost use Rattle.text.specs.Room.{Whole};
 ghost use Rattle.listing.specs.Listings.{answers_text};
 
+use std::io;
+
 // No listing is longer: a sheet has at most 1,000 rows, and a row one line of at most 239 bytes; there is
 // space for 2,500.
 const ROOM: usize = 600000;
@@ -15,10 +17,10 @@ fn listed(sheet: &[u8], room: &mut [u8; ROOM]) -> usize
     listing::answers(sheet, room)
 }
 
-fn main() {
+fn main(rt: HostRuntime) -> io::Result<()> {
     let mut input = [0u8; listing::INPUT];
-    let n = io::read_full(0, &mut input);
+    let n = streams::read_full(&rt, &mut input)?;
     let mut room = [0u8; ROOM];
     let end = listed(&input[..n], &mut room);
-    io::write_all(1, &room[..end]);
+    streams::write_all(&rt, &room[..end])
 }

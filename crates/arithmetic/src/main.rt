@@ -3,6 +3,9 @@
 // A record is 16 bytes, two little-endian words: the bits of x, and k, whose low byte is an exponent
 // as a signed byte. At most 65,536 bytes are read; a record cut short is passed over. A line a record:
 // x, k, x^k, root, fourth root and logarithm of x, and 1 where x is finite.
+
+use std::io;
+
 // A byte as a signed one.
 fn signed(b: u64) -> i16 {
     let low = b % 256;
@@ -13,59 +16,62 @@ fn signed(b: u64) -> i16 {
     }
 }
 
-fn print_signed(b: u64) {
+fn print_signed(rt: &impl Print, b: u64) -> io::Result<()> {
     let low = b % 256;
     if low < 128 {
-        io::print_decimal(1, low);
+        rt.print(low)
     } else {
-        io::write_all(1, b"-");
-        io::print_decimal(1, 256 - low);
+        streams::write_all(rt, b"-")?;
+        rt.print(256 - low)
     }
 }
 
 // A number by its 16 hexadecimal digits, or nan: a NaN has no digits of its own.
-fn print_float(x: f64) {
+fn print_float(rt: &impl Print, x: f64) -> io::Result<()> {
     if x == x {
-        io::print_hex(1, f64::to_bits(x), 16);
+        let bits = f64::to_bits(x);
+        print!(rt; "{bits:016x}")
     } else {
-        io::write_all(1, b"nan");
+        streams::write_all(rt, b"nan")
     }
 }
 
-fn print_line(x: f64, k: u64) {
-    print_float(x);
-    io::write_all(1, b" ");
-    print_signed(k);
-    io::write_all(1, b" ");
-    print_float(arith::power(x, signed(k)));
-    io::write_all(1, b" ");
-    print_float(elementary::root(x));
-    io::write_all(1, b" ");
-    print_float(elementary::fourth_root(x));
-    io::write_all(1, b" ");
-    print_float(elementary::log(x));
+fn print_line(rt: &impl Print, x: f64, k: u64) -> io::Result<()> {
+    print_float(rt, x)?;
+    streams::write_all(rt, b" ")?;
+    print_signed(rt, k)?;
+    streams::write_all(rt, b" ")?;
+    print_float(rt, arith::power(x, signed(k)))?;
+    streams::write_all(rt, b" ")?;
+    print_float(rt, elementary::root(x))?;
+    streams::write_all(rt, b" ")?;
+    print_float(rt, elementary::fourth_root(x))?;
+    streams::write_all(rt, b" ")?;
+    print_float(rt, elementary::log(x))?;
     if arith::is_finite(x) {
-        io::write_all(1, b" 1\n");
+        streams::write_all(rt, b" 1\n")
     } else {
-        io::write_all(1, b" 0\n");
+        streams::write_all(rt, b" 0\n")
     }
 }
 
-fn print_lines(s: &[u8]) {
+fn print_lines(rt: &impl Print, s: &[u8]) -> io::Result<()> {
     let n = s.len() / 16;
     let mut k = 0usize;
     while k < n {
         print_line(
+            rt,
             arith::float_of(words::word(s, 2 * k)),
             words::word(s, 2 * k + 1),
-        );
+        )?;
         k += 1;
     }
+    Ok(())
 }
 
-fn main() {
-    let mut buffer = io::large_buffer();
-    let n = io::read_full(0, &mut buffer);
-    io::write_all(1, b"x k power root fourth log finite\n");
-    print_lines(&buffer[..n]);
+fn main(rt: HostRuntime) -> io::Result<()> {
+    let mut buffer = [0u8; 65536];
+    let n = streams::read_full(&rt, &mut buffer)?;
+    streams::write_all(&rt, b"x k power root fourth log finite\n")?;
+    print_lines(&rt, &buffer[..n])
 }

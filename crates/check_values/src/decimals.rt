@@ -1,6 +1,8 @@
 // How numbers are written: the argument of a quantity as a plain decimal, 623.15, and a check value as
 // 002 prints it, 0.DIGITSEk for 0.DIGITS · 10^k.
 
+use std::io;
+
 // How a number is written as DIGITS/unit · 10^k: its DIGITS are itself times scale, and k is steps - 3.
 #[derive(Clone, Copy)]
 pub(crate) struct Power {
@@ -34,13 +36,13 @@ pub(crate) fn nearest_whole(x: f64) -> u64 {
 }
 
 // Writes one byte.
-pub(crate) fn print_byte(c: u8) {
-    io::write_all(1, &[c]);
+pub(crate) fn print_byte(rt: &impl Print, c: u8) -> io::Result<()> {
+    streams::write_all(rt, &[c])
 }
 
 // Writes a byte and x to seven decimals, without the zeros at the end.
-pub(crate) fn print_argument(before: u8, x: f64) {
-    print_byte(before);
+pub(crate) fn print_argument(rt: &impl Print, before: u8, x: f64) -> io::Result<()> {
+    print_byte(rt, before)?;
     let mut n = nearest_whole(x * 10000000.0);
     let mut unit = 10_000_000u64;
     while 10 <= unit {
@@ -50,36 +52,38 @@ pub(crate) fn print_argument(before: u8, x: f64) {
         n = n / 10;
         unit = unit / 10;
     }
-    print_over(n, unit);
+    print_over(rt, n, unit)
 }
 
 // Writes a space and the number n/unit · 10^(steps - 3).
-pub(crate) fn print_number(n: u64, unit: u64, steps: u64) {
-    print_byte(b' ');
-    print_over(n, unit);
-    print_byte(b'E');
+pub(crate) fn print_number(rt: &impl Print, n: u64, unit: u64, steps: u64) -> io::Result<()> {
+    print_byte(rt, b' ')?;
+    print_over(rt, n, unit)?;
+    print_byte(rt, b'E')?;
     if steps < 3 {
-        print_byte(b'-');
-        io::print_decimal(1, 3 - steps);
+        print_byte(rt, b'-')?;
+        rt.print(3 - steps)
     } else {
-        io::print_decimal(1, steps - 3);
+        rt.print(steps - 3)
     }
 }
 
 // Writes n over a power of ten.
-fn print_over(n: u64, unit: u64) {
+fn print_over(rt: &impl Print, n: u64, unit: u64) -> io::Result<()> {
     if unit <= 1 {
-        io::print_decimal(1, n);
+        rt.print(n)
     } else {
-        io::print_decimal(1, n / unit);
-        print_byte(b'.');
-        print_fraction(std::num::wrapping_add_u64(unit, n % unit));
+        rt.print(n / unit)?;
+        print_byte(rt, b'.')?;
+        print_fraction(rt, std::num::wrapping_add_u64(unit, n % unit))
     }
 }
 
 // Writes the decimal digits of n without the first, which stands there to keep the zeros behind it.
-fn print_fraction(n: u64) {
-    let mut text = [0u8; 20];
-    let count = io::decimal(n, &mut text);
-    io::write_all(1, &text[1..count]);
+fn print_fraction(rt: &impl Print, n: u64) -> io::Result<()> {
+    if 10 <= n {
+        print_fraction(rt, n / 10)?;
+        print_byte(rt, b'0' + (n % 10) as u8)?;
+    }
+    Ok(())
 }

@@ -9,12 +9,13 @@ mod revised;
 mod tally;
 
 use crate::tally::{NINE_DIGITS, Tally};
+use std::io;
 
-fn main() {
+fn main(rt: HostRuntime) -> io::Result<()> {
     let tally = Tally {
         unit: NINE_DIGITS,
         lines: 0,
         agreed: 0,
     };
-    paper003::tables(paper002::tables(tally)).print();
+    paper003::tables(&rt, paper002::tables(&rt, tally)?)?.print(&rt)
 }

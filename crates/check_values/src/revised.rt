@@ -2,10 +2,12 @@
 use crate::quantities::{Point, six};
 use crate::tally::Tally;
 use hot::Region5;
+use std::io;
 
 // Table 42: region 5.
-pub(crate) fn table42(mut tally: Tally) -> Tally {
+pub(crate) fn table42(rt: &impl Print, mut tally: Tally) -> io::Result<Tally> {
     tally = region5(
+        rt,
         tally,
         0.5,
         1500.0,
@@ -17,8 +19,9 @@ pub(crate) fn table42(mut tally: Tally) -> Tally {
             cp: 0.261609445e1,
             w: 0.917068690e3,
         },
-    );
+    )?;
     tally = region5(
+        rt,
         tally,
         30.0,
         1500.0,
@@ -30,8 +33,9 @@ pub(crate) fn table42(mut tally: Tally) -> Tally {
             cp: 0.272724317e1,
             w: 0.928548002e3,
         },
-    );
+    )?;
     region5(
+        rt,
         tally,
         30.0,
         2000.0,
@@ -46,7 +50,7 @@ pub(crate) fn table42(mut tally: Tally) -> Tally {
     )
 }
 
-fn region5(tally: Tally, p: f64, t: f64, printed: Point) -> Tally {
+fn region5(rt: &impl Print, tally: Tally, p: f64, t: f64, printed: Point) -> io::Result<Tally> {
     let a = Region5::state(p, t);
-    six(tally, b"R7-97-42", b'v', a.v, a, p, t, printed)
+    six(rt, tally, b"R7-97-42", b'v', a.v, a, p, t, printed)
 }

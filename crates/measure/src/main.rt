@@ -10,6 +10,7 @@ use properties::State;
 use reply::Answer;
 use saturation_line::{SaturationPressure, ps};
 use slopes::Derivative;
+use std::io;
 use steam::Region2;
 
 // Every property of a state, so that none is left unworked.
@@ -338,17 +339,16 @@ fn measured(operation: u8, n: usize) -> f64 {
     }
 }
 
-fn main() {
+fn main(rt: HostRuntime) -> io::Result<()> {
     let mut buffer = [0u8; 1024];
-    let got = io::read_full(0, &mut buffer);
+    let got = streams::read_full(&rt, &mut buffer)?;
     if got == 0 {
-        io::write_all(1, b"no operation\n");
-        return;
+        return streams::write_all(&rt, b"no operation\n");
     }
     let value = measured(buffer[0], got - 1);
     if value < 0.0 {
-        io::write_all(1, b"below zero\n");
+        streams::write_all(&rt, b"below zero\n")
     } else {
-        io::write_all(1, b"done\n");
+        streams::write_all(&rt, b"done\n")
     }
 }

@@ -10,7 +10,7 @@ mod turbine;
 
 use crate::seats::{Call, Seats, Step};
 use desk::{Answer, Desk, Outcome};
-use libc::STDOUT_FILENO;
+use std::io;
 
 // How many rounds settle the turbine, one for each of its queries. The heater is settled in the first.
 const ROUNDS: u64 = 6;
@@ -105,35 +105,48 @@ fn round(plant: Plant, pace: Pace, room: &mut [u8], lines: &mut [u8]) -> Plant {
 }
 
 // Prints what stands in a room from one place up to another.
-fn show(room: &[u8], from: usize, to: usize) {
+fn show(rt: &impl Print, room: &[u8], from: usize, to: usize) -> io::Result<()> {
     if from <= to {
         if to <= room.len() {
-            io::write_all(STDOUT_FILENO, &room[from..to]);
+            return streams::write_all(rt, &room[from..to]);
         }
     }
+    Ok(())
 }
 
 // Prints what the models wrote since, the heater's lines, which come sooner, and then the turbine's.
-fn show_since(then: Seats, now: Seats, room: &[u8], lines: &[u8]) {
+fn show_since(
+    rt: &impl Print,
+    then: Seats,
+    now: Seats,
+    room: &[u8],
+    lines: &[u8],
+) -> io::Result<()> {
     let heater_then = then.heater;
     let heater = now.heater;
-    show(lines, heater_then.next_line, heater.next_line);
+    show(rt, lines, heater_then.next_line, heater.next_line)?;
     let turbine_then = then.turbine;
     let turbine = now.turbine;
-    show(room, turbine_then.next_line, turbine.next_line);
+    show(rt, room, turbine_then.next_line, turbine.next_line)
 }
 
 // Prints what the models wrote at their first states.
-fn show_first(seats: Seats, room: &[u8], lines: &[u8]) {
+fn show_first(rt: &impl Print, seats: Seats, room: &[u8], lines: &[u8]) -> io::Result<()> {
     let turbine = seats.turbine;
-    show(room, 0, turbine.next_line);
+    show(rt, room, 0, turbine.next_line)?;
     let heater = seats.heater;
-    show(lines, 0, heater.next_line);
+    show(rt, lines, 0, heater.next_line)
 }
 
 // All rounds at a new desk, each printed once it is over.
-fn run(start: Seats, pace: Pace, room: &mut [u8], lines: &mut [u8]) {
-    show_first(start, room, lines);
+fn run(
+    rt: &impl Print,
+    start: Seats,
+    pace: Pace,
+    room: &mut [u8],
+    lines: &mut [u8],
+) -> io::Result<()> {
+    show_first(rt, start, room, lines)?;
     let mut plant = Plant {
         desk: desk::new_desk(),
         seats: start,
@@ -143,14 +156,15 @@ fn run(start: Seats, pace: Pace, room: &mut [u8], lines: &mut [u8]) {
         let then = plant.seats;
         plant = round(plant, pace, room, lines);
         let now = plant.seats;
-        show_since(then, now, room, lines);
+        show_since(rt, then, now, room, lines)?;
         k += 1;
     }
+    Ok(())
 }
 
 // Run 1: the turbine and the heater at one desk. After 32 turns for each halving a query is settled,
 // whoever else posts: a rough state after 320, a fine one after 1600.
-fn beside_the_heater(room: &mut [u8], lines: &mut [u8]) {
+fn beside_the_heater(rt: &impl Print, room: &mut [u8], lines: &mut [u8]) -> io::Result<()> {
     let pace = Pace {
         before: 0,
         rough: 320,
@@ -158,45 +172,56 @@ fn beside_the_heater(room: &mut [u8], lines: &mut [u8]) {
     };
     let turbine = turbine::inlet(room);
     let heater = heater::water_in(lines);
-    run(seats::seated(turbine, heater), pace, room, lines);
+    run(rt, seats::seated(turbine, heater), pace, room, lines)
 }
 
 // Run 2: the turbine alone, its turns dealt otherwise.
-fn alone(room: &mut [u8], lines: &mut [u8]) {
+fn alone(rt: &impl Print, room: &mut [u8], lines: &mut [u8]) -> io::Result<()> {
     let pace = Pace {
         before: 7,
         rough: 320,
         fine: 1300,
     };
     let turbine = turbine::inlet(room);
-    run(seats::seated(turbine, heater::absent()), pace, room, lines);
+    run(
+        rt,
+        seats::seated(turbine, heater::absent()),
+        pace,
+        room,
+        lines,
+    )
 }
 
 // Prints a line.
-fn say(line: &[u8]) {
-    io::write_all(STDOUT_FILENO, line);
+fn say(rt: &impl Print, line: &[u8]) -> io::Result<()> {
+    streams::write_all(rt, line)
 }
 
 // What the two runs come to: a room has zeros where nothing was written, so the rooms are compared whole.
-fn compare(room: &[u8], room_alone: &[u8]) {
-    if check::same(room, room_alone) {
+fn compare(rt: &impl Print, room: &[u8], room_alone: &[u8]) -> io::Result<()> {
+    if room == room_alone {
         say(
+            rt,
             b"the turbine's lines are the same in both runs, and so is every bit of its states: nothing of the heater's got into them\n",
-        );
+        )
     } else {
-        say(b"the turbine's lines differ\n");
+        say(rt, b"the turbine's lines differ\n")
     }
 }
 
-fn main() {
+fn main(rt: HostRuntime) -> io::Result<()> {
     let mut room = [0u8; 3072];
     let mut room_alone = [0u8; 3072];
     let mut lines = [0u8; 1024];
     say(
+        &rt,
         b"turbine and heater at one desk: the heater collects its rough states after 320 turns, the turbine its fine ones after 1600\n",
-    );
-    beside_the_heater(&mut room, &mut lines);
-    say(b"turbine alone: 7 turns before each post, 1620 between it and its collect\n");
-    alone(&mut room_alone, &mut lines);
-    compare(&room, &room_alone);
+    )?;
+    beside_the_heater(&rt, &mut room, &mut lines)?;
+    say(
+        &rt,
+        b"turbine alone: 7 turns before each post, 1620 between it and its collect\n",
+    )?;
+    alone(&rt, &mut room_alone, &mut lines)?;
+    compare(&rt, &room, &room_alone)
 }

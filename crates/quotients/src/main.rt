@@ -1,12 +1,13 @@
 // Derivatives at the points of a sheet on standard input, whose note is triples of bytes z, x, y: for
 // each row and each triple in turn a line with row number, z, x, y, refusal (0 if none) and the value
 // by its bits. A refused sheet prints only `refused N`.
-ghost use Rattle.std.specs.Prelude.{◌≡◌};
+ghost use Rattle.std.specs.Prelude.{◌≡◌, IfOk};
 ghost use Rattle.text.specs.Room.{Whole};
 ghost use Rattle.sheet.specs.Read.{count_of};
 ghost use Rattle.listing.specs.Listings.{triples_of, quotients_head, quotients_row};
 
 use sheet::Reading;
+use std::io;
 
 // The lines of no row are longer: a note has at most 1,365 triples, and a triple one line of at most 122
 // bytes.
@@ -29,25 +30,26 @@ fn row(sheet: &[u8], reading: Reading, k: usize, room: &mut [u8; ROOM]) -> usize
 }
 
 // Prints the listing of a sheet, a row at a time, and answers how many rows were listed: all of them.
-fn print(sheet: &[u8]) -> usize
-    ensures { result ≡ count_of (triples_of sheet.now) }
+fn print(rt: &impl Print, sheet: &[u8]) -> io::Result<usize>
+    ensures { IfOk result (λ n. n ≡ count_of (triples_of sheet.now)) }
 {
     let mut room = [0u8; ROOM];
     let reading = listing::triples(sheet);
     let end = head(reading, &mut room);
-    io::write_all(1, &room[..end]);
+    streams::write_all(rt, &room[..end])?;
     let count = reading.count();
     let mut k = 0;
     while k < count {
         let end = row(sheet, reading, k, &mut room);
-        io::write_all(1, &room[..end]);
+        streams::write_all(rt, &room[..end])?;
         k += 1;
     }
-    k
+    Ok(k)
 }
 
-fn main() {
+fn main(rt: HostRuntime) -> io::Result<()> {
     let mut input = [0u8; listing::INPUT];
-    let n = io::read_full(0, &mut input);
-    print(&input[..n]);
+    let n = streams::read_full(&rt, &mut input)?;
+    print(&rt, &input[..n])?;
+    Ok(())
 }

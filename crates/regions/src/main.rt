@@ -3,6 +3,8 @@
 ghost use Rattle.text.specs.Room.{Whole};
 ghost use Rattle.listing.specs.Listings.{regions_text};
 
+use std::io;
+
 // No listing is longer: a sheet has at most 1,000 rows, and a row one line of at most 84 bytes; there is
 // space for 7,000.
 const ROOM: usize = 600000;
@@ -14,10 +16,10 @@ fn listed(sheet: &[u8], room: &mut [u8; ROOM]) -> usize
     listing::regions(sheet, room)
 }
 
-fn main() {
+fn main(rt: HostRuntime) -> io::Result<()> {
     let mut input = [0u8; listing::INPUT];
-    let n = io::read_full(0, &mut input);
+    let n = streams::read_full(&rt, &mut input)?;
     let mut room = [0u8; ROOM];
     let end = listed(&input[..n], &mut room);
-    io::write_all(1, &room[..end]);
+    streams::write_all(&rt, &room[..end])
 }

@@ -1,12 +1,12 @@
 // A run of desk calls on standard input, record by record, from a new desk: a line for each record with
 // what the desk answered, up to the end of the run or a bad record. For looking into a run that a model's
 // author complains about.
-ghost use Rattle.std.specs.Prelude.{◌≤◌, ◌<◌, length};
+ghost use Rattle.std.specs.Prelude.{◌≤◌, ◌<◌, length, IfOk};
 ghost use Rattle.text.specs.Room.{Whole};
 ghost use Rattle.transcript.specs.Steps.{record_text, Next, Played, Ended};
 
 use desk::Desk;
-use libc::{STDIN_FILENO, STDOUT_FILENO};
+use std::io;
 use transcript::Step;
 
 // The text of no record is longer: the longest are those of a desk that is shown.
@@ -22,9 +22,9 @@ fn play(run: &[u8], k: u64, at: usize, d: Desk, room: &mut [u8; ROOM]) -> Step
 }
 
 // Plays the records of a run, prints the text of each, and answers how many there are.
-fn replay(run: &[u8]) -> u64
+fn replay(rt: &impl Print, run: &[u8]) -> io::Result<u64>
     requires { length run.now ≤ 65537 }
-    ensures { Ended run.now result }
+    ensures { IfOk result (Ended run.now) }
 {
     let mut room = [0u8; ROOM];
     let mut desk = desk::new_desk();
@@ -33,21 +33,22 @@ fn replay(run: &[u8]) -> u64
     loop {
         let step = play(run, k, at, desk, &mut room);
         let end = step.end;
-        io::write_all(STDOUT_FILENO, &room[..end]);
+        streams::write_all(rt, &room[..end])?;
         let after = step.desk;
         desk = after;
         at = at + step.taken;
         k += 1;
         if run.len() <= at {
-            return k;
+            return Ok(k);
         }
     }
 }
 
 // At most 65,536 bytes are a run. One more is read, so that of a longer one something is left behind the
 // last whole record, which is then a record cut short: records are whole words, and 65,537 bytes are not.
-fn main() {
+fn main(rt: HostRuntime) -> io::Result<()> {
     let mut input = [0u8; 65537];
-    let n = io::read_full(STDIN_FILENO, &mut input);
-    replay(&input[..n]);
+    let n = streams::read_full(&rt, &mut input)?;
+    replay(&rt, &input[..n])?;
+    Ok(())
 }

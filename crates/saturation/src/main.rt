@@ -5,6 +5,8 @@
 ghost use Rattle.text.specs.Room.{Whole};
 ghost use Rattle.saturation_listing.specs.Listing.{saturation_text};
 
+use std::io;
+
 // No listing is longer: a header of 19 bytes, and 8,192 words with one line of at most 42 bytes each.
 const ROOM: usize = 344083;
 
@@ -15,10 +17,10 @@ fn listed(input: &[u8], room: &mut [u8; ROOM]) -> usize
     saturation_listing::saturation(input, room)
 }
 
-fn main() {
+fn main(rt: HostRuntime) -> io::Result<()> {
     let mut input = [0u8; saturation_listing::INPUT];
-    let n = io::read_full(0, &mut input);
+    let n = streams::read_full(&rt, &mut input)?;
     let mut room = [0u8; ROOM];
     let end = listed(&input[..n], &mut room);
-    io::write_all(1, &room[..end]);
+    streams::write_all(&rt, &room[..end])
 }

@@ -7,6 +7,8 @@ ghost use Rattle.sheet_writer.specs.Write.{write_of};
 ghost use Rattle.listing.specs.Listings.{longest};
 ghost use Rattle.written.specs.Written.{answer_text, written_text};
 
+use std::io;
+
 // No sheet is longer.
 const ROOM: usize = listing::LONGEST;
 
@@ -52,10 +54,10 @@ fn text(parts: &[u8], room: &mut [u8; ROOM]) -> usize
     answered(&rest[..end], &rest[end..], most, room)
 }
 
-fn main() {
-    let mut input = io::large_buffer();
-    let n = io::read_full(0, &mut input);
+fn main(rt: HostRuntime) -> io::Result<()> {
+    let mut input = [0u8; 65536];
+    let n = streams::read_full(&rt, &mut input)?;
     let mut room = [0u8; ROOM];
     let end = text(&input[..n], &mut room);
-    io::write_all(1, &room[..end]);
+    streams::write_all(&rt, &room[..end])
 }
