@@ -1,5 +1,7 @@
 // Temperatures on the wrong side of saturation, liquid above the line's and vapour below it, and which of
 // them are pulled to it (specs/Pull.antt). Every call takes every number. Temperatures in K.
+#![tactic(auto)]
+
 ghost use Rattle.std.specs.Prelude.{◌≡◌};
 ghost use Rattle.pull.specs.Pull.{is_past, past_by, pulled_to, in_reach};
 
