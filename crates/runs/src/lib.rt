@@ -2,6 +2,8 @@
 // here: the calls are those of crate desk, and their contracts cite specs/Model.antt. The paper's number and
 // values of an answer are in specs/Answers.antt, the order of refusals in specs/Refusals.antt, what a run is in
 // specs/Runs.antt; proofs/Demand.antt has the theorems.
+#![tactic(auto)]
+
 use ledger::Desk;
 use settle::Settled;
 
