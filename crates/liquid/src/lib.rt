@@ -1,5 +1,7 @@
 // The basic equation of region 1 of IAPWS-IF97 (002), liquid water from p and T. Every call takes every
 // number; what it answers is said in specs/.
+#![tactic(auto)]
+
 mod region1;
 
 pub use region1::Region1;

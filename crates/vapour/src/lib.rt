@@ -1,6 +1,8 @@
 // What the basic equations of vapour in IAPWS-IF97 (002) share, regions 2 and 5: γ is made of an ideal-gas
 // part and a residual part, and the formulas around it are the same. Every call takes every number; what it
 // answers is said in specs/.
+#![tactic(auto)]
+
 mod vapours;
 
 pub use vapours::{added, gibbs, response_at, unrooted_at};

@@ -1,17 +1,12 @@
 -- `liquid::region1::Region1::both` meets its contract: the three arrays are Table A2 row by row, which computing shows. Assumes nothing.
 use mathlib.Core.Path.{refl}
 use lib.Ieee.{round, of_bits, neg}
-use borrow.Author.Rules.{rules}
 use Rattle.arith.specs.Printed.{printed}
 use Rattle.terms.specs.Sum.{rows}
 use Rattle.terms.proofs.Lent.{lent_six}
 use Rattle.liquid.specs.Region1.{table1}
-use Rattle.liquid.proofs.region1.Region1.both.Statement.{statement}
-use Rattle.liquid.proofs.region1.Region1.both.Tie as tie
+use Rattle.liquid.proofs.region1.Region1.both.Goals as goal
 
-returns : tie.Need-returns
+pub returns : goal.returns
 unfolding rows table1 printed round of_bits neg
 returns c = lent_six table1 _ _ c.six_sums.ensures refl
-
-pub both-spec : {M : Type 1} → statement M
-both-spec = tie.close (tie.spec (λ c. search rules) (λ c. search rules) (λ c. search rules) (λ c κs. search rules) returns)

@@ -3,12 +3,8 @@
 use mathlib.Core.Path.{refl}
 use lib.Ieee.{of_int, of_bits}
 use Rattle.vapour.specs.Vapour.{vapour_response}
-use Rattle.vapour.proofs.vapours.response_at.Statement.{statement}
-use Rattle.vapour.proofs.vapours.response_at.Tie as tie
+use Rattle.vapour.proofs.vapours.response_at.Goals as goal
 
-returns : tie.Need-returns
+pub returns : goal.returns
 unfolding vapour_response of_int of_bits
 returns c = refl
-
-pub response-at-spec : {M : Type 1} → statement M
-response-at-spec = tie.close (tie.spec returns)
