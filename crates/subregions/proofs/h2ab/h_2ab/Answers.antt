@@ -3,12 +3,8 @@ use mathlib.Core.Path.{refl}
 use lib.Ieee.{round, of_bits}
 use Rattle.arith.specs.Printed.{printed}
 use Rattle.subregions.specs.H2ab.{h2ab}
-use Rattle.subregions.proofs.h2ab.h_2ab.Statement.{statement}
-use Rattle.subregions.proofs.h2ab.h_2ab.Tie as tie
+use Rattle.subregions.proofs.h2ab.h_2ab.Goals as goal
 
-returns : tie.Need-returns
+pub returns : goal.returns
 unfolding h2ab printed round of_bits
 returns c = refl
-
-pub h-2ab-spec : {M : Type 1} → statement M
-h-2ab-spec = tie.close (tie.spec returns)

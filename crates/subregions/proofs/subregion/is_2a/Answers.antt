@@ -2,12 +2,8 @@
 use mathlib.Core.Path.{refl}
 use lib.Ieee.{of_int, of_bits}
 use Rattle.subregions.specs.Subregions.{is2a}
-use Rattle.subregions.proofs.subregion.is_2a.Statement.{statement}
-use Rattle.subregions.proofs.subregion.is_2a.Tie as tie
+use Rattle.subregions.proofs.subregion.is_2a.Goals as goal
 
-returns : tie.Need-returns
+pub returns : goal.returns
 unfolding is2a of_int of_bits
 returns c = refl
-
-pub is-2a-spec : {M : Type 1} → statement M
-is-2a-spec = tie.close (tie.spec returns)
