@@ -3,6 +3,7 @@
 // A record is 16 bytes, two little-endian words: the bits of x, and k, whose low byte is an exponent
 // as a signed byte. At most 65,536 bytes are read; a record cut short is passed over. A line a record:
 // x, k, x^k, root, fourth root and logarithm of x, and 1 where x is finite.
+#![tactic(auto)]
 
 use std::io;
 
