@@ -1,17 +1,12 @@
 -- `hot::region5::Region5::residual_six` meets its contract: the three arrays are the residual table row by row, which computing shows. Assumes nothing.
 use mathlib.Core.Path.{refl}
 use lib.Ieee.{round, of_bits, neg}
-use borrow.Author.Rules.{rules}
 use Rattle.arith.specs.Printed.{printed}
 use Rattle.terms.specs.Sum.{rows}
 use Rattle.terms.proofs.Lent.{lent_six}
 use Rattle.hot.specs.Region5.{residual5}
-use Rattle.hot.proofs.region5.Region5.residual_six.Statement.{statement}
-use Rattle.hot.proofs.region5.Region5.residual_six.Tie as tie
+use Rattle.hot.proofs.region5.Region5.residual_six.Goals as goal
 
-returns : tie.Need-returns
+pub returns : goal.returns
 unfolding rows residual5 printed round of_bits neg
 returns c = lent_six residual5 _ _ c.six_sums.ensures refl
-
-pub residual-six-spec : {M : Type 1} → statement M
-residual-six-spec = tie.close (tie.spec (λ c. search rules) (λ c. search rules) (λ c. search rules) (λ c κs. search rules) returns)

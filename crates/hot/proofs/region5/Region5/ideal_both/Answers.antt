@@ -1,17 +1,12 @@
 -- `hot::region5::Region5::ideal_both` meets its contract: the three arrays are the ideal-gas table row by row, which computing shows. Assumes nothing.
 use mathlib.Core.Path.{refl}
 use lib.Ieee.{round, of_bits, neg}
-use borrow.Author.Rules.{rules}
 use Rattle.arith.specs.Printed.{printed}
 use Rattle.terms.specs.Sum.{rows}
 use Rattle.terms.proofs.Lent.{lent_six}
 use Rattle.hot.specs.Region5.{ideal5}
-use Rattle.hot.proofs.region5.Region5.ideal_both.Statement.{statement}
-use Rattle.hot.proofs.region5.Region5.ideal_both.Tie as tie
+use Rattle.hot.proofs.region5.Region5.ideal_both.Goals as goal
 
-returns : tie.Need-returns
+pub returns : goal.returns
 unfolding rows ideal5 printed round of_bits neg
 returns c = lent_six ideal5 _ _ c.six_sums.ensures refl
-
-pub ideal-both-spec : {M : Type 1} → statement M
-ideal-both-spec = tie.close (tie.spec (λ c. search rules) (λ c. search rules) (λ c. search rules) (λ c κs. search rules) returns)
