@@ -21,7 +21,13 @@ declared != "" && /^    [A-Za-z]/ {
     given[calls] = $NF == "Self" ? owner : $NF
 }
 /^ *pub [a-z].* fn / && index(" " asked " ", " " crate " ") { fail("a public call of a form that is not provided for: " $0) }
-/^pub use / && index(" " asked " ", " " crate " ") { passed[crate "::" behind("[: ]", before(";", $0))] = 1 }
+/^pub use / && index(" " asked " ", " " crate " ") {
+    while ($0 !~ /;/) { text = $0; if (getline <= 0) { break } sub(/^ +/, ""); $0 = text $0 }
+    list = before(";", $0)
+    list = list ~ /[{]/ ? before("[}]", behind("[{]", list)) : behind("[: ]", list)
+    n = split(list, each, /, */)
+    for (i = 1; i <= n; i++) { if (each[i] != "") { passed[crate "::" each[i]] = 1 } }
+}
 
 # All values of `value`, which has the type `type`, as one number.
 function all(value, type) {
@@ -72,7 +78,7 @@ END {
             if (each[i] != "") { arguments = arguments (arguments == "" ? "" : ", ") made(before(":", each[i]), behind(": ", each[i])) }
         }
         name = called[c]; gsub(/::/, "__", name)
-        printf "#[no_mangle]\npub extern \"C\" fn %s(%s) -> f64 {\n    %s\n}\n\n", name, parameters, all(called[c] "(" arguments ")", given[c])
+        printf "#[unsafe(no_mangle)]\npub extern \"C\" fn %s(%s) -> f64 {\n    %s\n}\n\n", name, parameters, all(called[c] "(" arguments ")", given[c])
     }
     do {
         more = 0

@@ -4,7 +4,7 @@ FNR == 1 { table = 0; split("", tables) }
 {
     code = $0
     sub(/[ \t]*\/\/.*/, "", code)
-    gsub(/&\[(f64|i8)\]|#\[/, "", code)
+    gsub(/&\[(f64|i8)\]|#!?\[/, "", code)
     row = 0
 }
 code ~ /^ *(ghost|requires|ensures) / { next }
