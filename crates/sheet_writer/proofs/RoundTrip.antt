@@ -19,7 +19,7 @@ use Rattle.sheet_writer.specs.declared.Writing.TheVariants.{Length}
 use Rattle.versions.proofs.VersionLaws.{allowed_small, version_known, version_small, version_one}
 use Rattle.words.proofs.WordLaws.{Bytes, u32_behind, u32_of_bytes, u32_bytes_at}
 use Rattle.sheet.proofs.ReadLaws.{trailer_rows, trailer_fits, read_rows, read_inv}
-use Rattle.sheet_writer.proofs.WriteLaws.{Written, written, writes, sheet_length, room_sheet, sheet_in_front}
+use Rattle.sheet_writer.proofs.WriteLaws.{Written, written, writes, room_sheet, sheet_in_front}
 
 -- ---- a written sheet reads back
 

@@ -1,4 +1,6 @@
 // Writing a point sheet, in the format that `sheet` tells (specs/Write.antt).
+#![tactic(auto)]
+
 ghost use Rattle.std.specs.Prelude.{◌≡◌, ◌<◌, length};
 ghost use Rattle.text.specs.Room.{placed};
 ghost use Rattle.sheet_writer.specs.Write.{number_of, length_of, trailer_bytes, sheet_of, write_of, room_of};

@@ -1,0 +1,9 @@
+use mathlib.Core.Path.{refl}
+use Rattle.sheet_writer.proofs.Writing.number.Goals as goal
+
+-- `sheet_writer::Writing::number` meets its contract, case by case. Assumes nothing.
+pub returns-in-Length : goal.returns-in-Length
+returns-in-Length c = rw c.in-Length.is refl
+
+pub returns-in-Refused : goal.returns-in-Refused
+returns-in-Refused c = rw c.in-Refused.is refl
