@@ -3,7 +3,6 @@ use Rattle.std.specs.Prelude.{ℕ}
 use Rattle.properties.specs.declared.Value.{Value}
 use Rattle.properties.specs.declared.Value.TheVariants.{Is, Missing}
 use Rattle.slopes.specs.declared.Derivative.{Derivative}
-use Rattle.slopes.specs.declared.Derivative.TheVariants as Derivative
 
 -- the refusal, 0 if there is none
 abbrev pub number_of : Derivative → ℕ

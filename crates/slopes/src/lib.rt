@@ -1,6 +1,8 @@
 // Slopes of a single-phase state by 001: how p, T, v, u, h, s, g and f change with each of the two
 // variables that a basic equation takes, and from these the derivative of any of them by another at a
 // constant third. Every call takes every number; what it answers is said in specs/.
+#![tactic(auto)]
+
 mod answers;
 mod numbers;
 mod ratios;
