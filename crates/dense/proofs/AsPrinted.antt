@@ -3,12 +3,11 @@
 use mathlib.Core.Path.{◌≡◌, refl, sym, ap, ◌∙◌}
 use mathlib.Core.Bool.{Bool, true, false, not, cond, ◌||◌, true≢false}
 use lib.Ieee.{Float, lt, le, is_nan, round}
-use borrow.Author.Tests.{not-false}
 use Rattle.arith.specs.Printed.{printed}
 use Rattle.arith.proofs.Order.{lt_le, le_not_nan, lt_is_not_le}
 use Rattle.brackets.specs.declared.Bracket.{Bracket}
 use Rattle.saturation_line.specs.Printed.{equation28}
-use Rattle.saturation_line.specs.Pressure.{t273, t647, up_to623, above623, ps_of}
+use Rattle.saturation_line.specs.Pressure.{t273, up_to623, above623, ps_of}
 use Rattle.saturation_line.specs.declared.SaturationPressure.TheVariants.{UpTo623, Above623, Nowhere}
 use Rattle.saturation_line.proofs.Told.{on_line, exhaustive}
 use Rattle.dense.specs.Region3.{density*, T*}

@@ -1,6 +1,8 @@
 // The basic equation of region 3 of IAPWS-IF97 (002), water and steam about the critical point, from
 // density and T; and the density at p and T. Every call takes every number; what it answers is said in
 // specs/. Units: density in kg/m³, p in MPa, T in K.
+#![tactic(auto)]
+
 mod densities;
 mod region3;
 

@@ -2,12 +2,8 @@
 use mathlib.Core.Path.{refl}
 use lib.Ieee.{round, of_int, of_bits}
 use Rattle.arith.specs.Printed.{printed}
-use Rattle.dense.proofs.region3.Region3.pressure_by.Statement.{statement}
-use Rattle.dense.proofs.region3.Region3.pressure_by.Tie as tie
+use Rattle.dense.proofs.region3.Region3.pressure_by.Goals as goal
 
-returns : tie.Need-returns
+pub returns : goal.returns
 unfolding printed round of_int of_bits
 returns c = refl
-
-pub pressure-by-spec : {M : Type 1} → statement M
-pressure-by-spec = tie.close (tie.spec returns)

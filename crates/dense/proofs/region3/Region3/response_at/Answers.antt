@@ -3,12 +3,8 @@ use mathlib.Core.Path.{refl}
 use lib.Ieee.{round, of_int, of_bits, neg}
 use Rattle.arith.specs.Printed.{printed}
 use Rattle.dense.specs.Region3.{response_at3}
-use Rattle.dense.proofs.region3.Region3.response_at.Statement.{statement}
-use Rattle.dense.proofs.region3.Region3.response_at.Tie as tie
+use Rattle.dense.proofs.region3.Region3.response_at.Goals as goal
 
-returns : tie.Need-returns
+pub returns : goal.returns
 unfolding response_at3 printed round of_int of_bits neg
 returns c = refl
-
-pub response-at-spec : {M : Type 1} → statement M
-response-at-spec = tie.close (tie.spec returns)

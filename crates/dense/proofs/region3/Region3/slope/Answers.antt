@@ -1,17 +1,12 @@
 -- `dense::region3::Region3::slope` meets its contract: the three arrays are rows 2 to 40 of Table A9, which computing shows. Assumes nothing.
 use mathlib.Core.Path.{refl}
 use lib.Ieee.{round, of_bits, neg}
-use borrow.Author.Rules.{rules}
 use Rattle.arith.specs.Printed.{printed}
 use Rattle.terms.specs.Sum.{rows}
 use Rattle.terms.proofs.Lent.{lent_sum}
 use Rattle.dense.specs.Region3.{table3}
-use Rattle.dense.proofs.region3.Region3.slope.Statement.{statement}
-use Rattle.dense.proofs.region3.Region3.slope.Tie as tie
+use Rattle.dense.proofs.region3.Region3.slope.Goals as goal
 
-returns : tie.Need-returns
+pub returns : goal.returns
 unfolding rows table3 printed round of_bits neg
 returns c = lent_sum table3 1 0 _ _ c.slope_by_a.ensures refl
-
-pub slope-spec : {M : Type 1} → statement M
-slope-spec = tie.close (tie.spec (λ c. search rules) (λ c. search rules) (λ c. search rules) (λ c κs. search rules) returns)

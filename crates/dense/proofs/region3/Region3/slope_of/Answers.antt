@@ -2,12 +2,8 @@
 use mathlib.Core.Path.{refl}
 use lib.Ieee.{round, of_bits}
 use Rattle.arith.specs.Printed.{printed}
-use Rattle.dense.proofs.region3.Region3.slope_of.Statement.{statement}
-use Rattle.dense.proofs.region3.Region3.slope_of.Tie as tie
+use Rattle.dense.proofs.region3.Region3.slope_of.Goals as goal
 
-returns : tie.Need-returns
+pub returns : goal.returns
 unfolding printed round of_bits
 returns c = refl
-
-pub slope-of-spec : {M : Type 1} → statement M
-slope-of-spec = tie.close (tie.spec returns)

@@ -3,12 +3,8 @@ use mathlib.Core.Path.{refl}
 use lib.Ieee.{round, of_int, of_bits}
 use Rattle.arith.specs.Printed.{printed}
 use Rattle.dense.specs.Region3.{point3}
-use Rattle.dense.proofs.region3.Region3.point.Statement.{statement}
-use Rattle.dense.proofs.region3.Region3.point.Tie as tie
+use Rattle.dense.proofs.region3.Region3.point.Goals as goal
 
-returns : tie.Need-returns
+pub returns : goal.returns
 unfolding point3 printed round of_int of_bits
 returns c = refl
-
-pub point-spec : {M : Type 1} → statement M
-point-spec = tie.close (tie.spec returns)
