@@ -1,6 +1,8 @@
 // Every answer to a point sheet on standard input, a line a row: its number, kind, refusal, region,
 // mark (1 verified, 0 not), and p, T, v, u, h, s, cp, w, x by the bits of each; `-` for what an
 // answer lacks. A refused sheet prints only `refused N`.
+#![tactic(auto)]
+
 ghost use Rattle.text.specs.Room.{Whole};
 ghost use Rattle.listing.specs.Listings.{answers_text};
 

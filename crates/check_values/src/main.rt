@@ -1,6 +1,8 @@
 // Every check value that 002, 003 and, of region 5, R7-97 print for the equations in use, beside the value
 // computed, to the digits printed. A line: the paper and table, the quantity at its arguments, the printed and
 // the computed number. The last line says how many of them agree.
+#![tactic(auto)]
+
 mod decimals;
 mod paper002;
 mod paper003;

@@ -2,6 +2,8 @@
 // refused with 10, a second collect of a ticket with 11, p = 0.0006 with any finite h with 2, a post for 9
 // halvings or for 51 with 9. A line for each call: its name, its refusal number (0 where there is none)
 // and what it handed out (a ticket, the halvings done, a region).
+#![tactic(auto)]
+
 use desk::{Answer, Desk};
 use std::io;
 

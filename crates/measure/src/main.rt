@@ -1,6 +1,7 @@
 // For counting instructions (bench/count): works the operation that the first byte of standard input
 // names once for each byte behind it, with other arguments each time, so that no part of it can be
 // worked once for all turns, and says that it ended; `below zero` says that one of them was refused.
+#![tactic(auto)]
 
 use dense::Region3;
 use desk::{Answer as Answered, Desk, Outcome};

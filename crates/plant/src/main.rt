@@ -3,6 +3,8 @@
 // it runs the turbine again, with the heater gone and the turns dealt otherwise, and says whether the
 // turbine's lines, and every bit of its states, are the same.
 // Only this file has the desk in hand: a model is asked for its query and told its state (`seats`).
+#![tactic(auto)]
+
 mod heater;
 mod model;
 mod seats;

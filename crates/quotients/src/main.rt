@@ -1,6 +1,8 @@
 // Derivatives at the points of a sheet on standard input, whose note is triples of bytes z, x, y: for
 // each row and each triple in turn a line with row number, z, x, y, refusal (0 if none) and the value
 // by its bits. A refused sheet prints only `refused N`.
+#![tactic(auto)]
+
 ghost use Rattle.std.specs.Prelude.{◌≡◌, IfOk};
 ghost use Rattle.text.specs.Room.{Whole};
 ghost use Rattle.sheet.specs.Read.{count_of};

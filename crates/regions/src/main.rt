@@ -1,5 +1,7 @@
 // The sheet program: a point sheet on standard input, a line a row with its number, kind, refusal (0
 // if none) and region (0 if refused). A refused sheet prints only `refused N`.
+#![tactic(auto)]
+
 ghost use Rattle.text.specs.Room.{Whole};
 ghost use Rattle.listing.specs.Listings.{regions_text};
 

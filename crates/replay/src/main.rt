@@ -1,6 +1,8 @@
 // A run of desk calls on standard input, record by record, from a new desk: a line for each record with
 // what the desk answered, up to the end of the run or a bad record. For looking into a run that a model's
 // author complains about.
+#![tactic(auto)]
+
 ghost use Rattle.std.specs.Prelude.{◌≤◌, ◌<◌, length, IfOk};
 ghost use Rattle.text.specs.Room.{Whole};
 ghost use Rattle.transcript.specs.Steps.{record_text, Next, Played, Ended};

@@ -2,6 +2,8 @@
 // lowest first, that hold the bits of a T in K: a line a word with its number, refusal (0 if none),
 // place (1 up to 623.15 K, 2 above that, 0 if refused) and p in MPa by its bits, `-` if refused. Input
 // of more than 65,536 bytes, or of no whole number of words, prints only `bad input`.
+#![tactic(auto)]
+
 ghost use Rattle.text.specs.Room.{Whole};
 ghost use Rattle.saturation_listing.specs.Listing.{saturation_text};
 

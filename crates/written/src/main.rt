@@ -1,6 +1,8 @@
 // The sheet of a note and rows that stand on standard input, behind two words: how long the note is,
 // and how long the room for the sheet. At most 65,536 bytes are read. Prints the sheet's bytes, or
 // `refused N`.
+#![tactic(auto)]
+
 ghost use Rattle.std.specs.Prelude.{◌≡◌, ◌≤◌, min, length, drop};
 ghost use Rattle.text.specs.Room.{Whole};
 ghost use Rattle.sheet_writer.specs.Write.{write_of};
