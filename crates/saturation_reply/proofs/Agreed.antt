@@ -9,7 +9,6 @@ use Rattle.saturation_line.specs.Pressure.{ps_of}
 use Rattle.saturation_line.specs.Answers as Line
 use Rattle.saturation_line.proofs.Told.{on_line, number_told, not_finite_nowhere}
 use Rattle.saturation_line.specs.declared.SaturationPressure.{SaturationPressure}
-use Rattle.saturation_line.specs.declared.SaturationPressure.TheVariants as SaturationPressure
 use Rattle.properties.specs.declared.Value.{Value}
 use Rattle.properties.specs.declared.Value.TheVariants.{Is, Missing}
 use Rattle.saturation_reply.specs.Answers.{number_of, place_of, value_of}

@@ -1,6 +1,8 @@
 // What a direct question for the saturation pressure is answered: the pressure with its place, or the
 // refusal; and what that says in the request's words, its number, place and value (specs/Asked.antt,
 // specs/Answers.antt). Every call takes every number. p in MPa, T in K.
+#![tactic(auto)]
+
 ghost use Rattle.std.specs.Prelude.{◌≡◌};
 ghost use Rattle.saturation_reply.specs.Answers.{number_of, place_of, value_of};
 ghost use Rattle.saturation_reply.specs.Asked.{said_of, saturation_of};
