@@ -2,6 +2,8 @@
 // (p,s) stand to the saturation line; and where region 1 ends and region 2 begins at p. Every call takes
 // every number; what it answers is said in specs/.
 // Units: p in MPa, T in K, h in kJ/kg, s in kJ/(kg K).
+#![tactic(auto)]
+
 mod limits;
 mod ranges;
 mod tables;

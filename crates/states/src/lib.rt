@@ -1,6 +1,8 @@
 // States: that of a basic equation at p and T with the mark whether it comes back to what was asked, and
 // the wet states between saturated liquid and vapour. Every call takes every number; what it answers is
 // said in specs/. Units: p in MPa, T in K, v in m³/kg, u and h in kJ/kg, s and cp in kJ/(kg K), w in m/s.
+#![tactic(auto)]
+
 mod marks;
 mod mixing;
 

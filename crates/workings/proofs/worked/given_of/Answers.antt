@@ -1,3 +1,4 @@
+-- `workings::worked::given_of` meets its contract: by cases. Assumes nothing.
 use mathlib.Core.Path.{refl}
 use Rattle.workings.specs.Workings.{given_of}
 use Rattle.workings.proofs.worked.given_of.Goals as goal

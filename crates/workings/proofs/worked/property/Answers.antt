@@ -1,9 +1,9 @@
+-- `workings::worked::property` meets its contract: each arm takes the property that it stands for. Assumes nothing.
 use Rattle.liquid.specs.Region1.{state1, state_of1}
 use Rattle.steam.specs.Region2.{state2, state_of2}
 use Rattle.workings.specs.Workings.{unrooted_at, state_at, given_of, property_at}
 use Rattle.workings.proofs.worked.property.Goals as goal
 
--- `workings::worked::property` meets its contract: each arm takes the property that it stands for. Assumes nothing.
 pub returns-in-Enthalpy : goal.returns-in-Enthalpy
 unfolding property_at given_of state_at unrooted_at state1 state_of1
 returns-in-Enthalpy c = rw (c.in-Liquid.is, c.in-Enthalpy.is) c.h.ensures

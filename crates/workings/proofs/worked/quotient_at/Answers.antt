@@ -1,8 +1,8 @@
+-- `workings::worked::quotient_at` meets its contract: each arm takes the slopes of the equation that it stands for. Assumes nothing.
 use mathlib.Core.Path.{refl}
 use Rattle.workings.specs.Workings.{slopes_at}
 use Rattle.workings.proofs.worked.quotient_at.Goals as goal
 
--- `workings::worked::quotient_at` meets its contract: each arm takes the slopes of the equation that it stands for. Assumes nothing.
 pub returns-in-Region1 : goal.returns-in-Region1
 unfolding slopes_at
 returns-in-Region1 c = rw (c.quotient.ensures, c.slopes_1.ensures, c.gamma.ensures, c.in-Region1.is) refl

@@ -1,8 +1,8 @@
+-- `workings::worked::worked_at` meets its contract: properties and slopes are worked from the same γ. Assumes nothing.
 use mathlib.Core.Path.{refl}
 use Rattle.workings.specs.Workings.{unrooted_at, slopes_at, worked_at}
 use Rattle.workings.proofs.worked.worked_at.Goals as goal
 
--- `workings::worked::worked_at` meets its contract: properties and slopes are worked from the same γ. Assumes nothing.
 pub returns-in-Liquid : goal.returns-in-Liquid
 unfolding worked_at slopes_at unrooted_at
 returns-in-Liquid c =

@@ -2,12 +2,8 @@
 use mathlib.Core.Path.{refl}
 use Rattle.places.specs.Places.{saturates}
 use Rattle.places.proofs.Ends.{p_end_lem}
-use Rattle.places.proofs.limits.saturates.Statement.{statement}
-use Rattle.places.proofs.limits.saturates.Tie as tie
+use Rattle.places.proofs.limits.saturates.Goals as goal
 
-returns : tie.Need-returns
+pub returns : goal.returns
 unfolding saturates
 returns c = rw (p_end_lem) refl
-
-pub saturates-spec : {M : Type 1} → statement M
-saturates-spec = tie.close (tie.spec returns)
