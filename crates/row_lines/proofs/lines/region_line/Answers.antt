@@ -1,0 +1,12 @@
+use mathlib.Core.Path.{ap}
+use Rattle.text.proofs.Pieces.{said}
+use Rattle.reply.specs.declared.Answer.{Answer}
+use Rattle.text.specs.Texts.{newline}
+use Rattle.row_lines.specs.Lines.{verdict_of}
+use Rattle.row_lines.proofs.lines.region_line.Goals as goal
+
+-- `row_lines::lines::region_line` meets its contract: the verdict on the row's query. Assumes nothing.
+pub returns : goal.returns
+returns c =
+    let a = c.args in
+    said (ap (λ (x : Answer). verdict_of a.number a.row.kind x newline) c.asked.ensures) c.verdict.ensures
