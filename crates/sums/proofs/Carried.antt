@@ -61,10 +61,10 @@ first_same (Answer.Wet a) b = refl
 first_same (Answer.Refused n) b = refl
 
 -- variants 0 and 1 are the states
-pub first_kept : (o other : Outcome) → OneOf (0 ∷ 1 ∷ []) (tag_of the_type o) → o ≡ first_carried o other
+pub first_kept : (o other : Outcome) → ((n : ℕ) → o ≡ Refused n → ⊥) → o ≡ first_carried o other
 first_kept (Single a) other k = refl
 first_kept (Wet a) other k = refl
-first_kept (Refused n) other k = ⊎_elim (λ z. cc) (λ z. cc) k
+first_kept (Refused n) other k = absurd (k n refl)
 
 -- ---- the quotient
 

@@ -2,6 +2,8 @@
 // (p,h), (p,s) or (h,s), and the saturation pressure at T, or the refusal number. Every call takes every
 // number; what it answers is said in specs/. Units: p in MPa, T in K, v in m³/kg, u and h in kJ/kg, s and
 // cp in kJ/(kg K), w in m/s.
+#![tactic(auto)]
+
 mod candidates;
 mod derived;
 mod outcomes;
