@@ -2,7 +2,6 @@
 -- enough, and its note at most 4,096 bytes. Assumes nothing.
 use Prim.Native.Nat.{ℕ, ◌+◌, ◌*◌, ◌/◌, ◌%◌, ◌≤◌}
 use native.Mathlib.Omega.{arith}
-use borrow.Author.Rules.{zero≤}
 use mathlib.Core.Path.{◌≡◌, refl}
 use mathlib.Core.Bool.{Bool, true, false, cond}
 use mathlib.Core.List.{List, [], ◌++◌}
@@ -52,7 +51,7 @@ listed_short listing s = go listing (opened_of s) refl
         simp length-append (omega (arith, h, head l, joined_short (line_at l s start) 239 count (λ k. row_short l (k + 1) (row_of s start k))))
 
     refused : (l : Listing) (n : ℕ) (t : Bool) → length (cond t (header_of l ++ joined (line_at l s 0) 0) (refused_line n)) ≤ 600000
-    refused l n true = rows l 0 0 zero≤
+    refused l n true = rows l 0 0 (omega arith)
     refused l n false = omega (arith, refused_short n)
 
     go : (l : Listing) (r : Reading) → opened_of s ≡ r → length (listed_of l s r) ≤ 600000

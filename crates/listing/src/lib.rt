@@ -1,6 +1,8 @@
 // What the sheet programs write of a point sheet (specs/Listings.antt): the text goes into a slice
 // that the caller lends, its room, and the place behind it is answered. Where the room ends first, the
 // text is cut there.
+#![tactic(auto)]
+
 mod derivatives;
 mod lines;
 mod listings;
