@@ -1,5 +1,4 @@
 -- `check_values::decimals::print_fraction` ends: each call is for a tenth of the number. Assumes nothing.
-use Rattle.std.proofs.Common.{ℕ}
 use Rattle.check_values.proofs.decimals.+print_fraction.Given as goal
 
 abbrev pub decreases-print_fraction : goal.decreases-print_fraction
