@@ -1,12 +1,12 @@
 -- The region table of (p,T) is that of 01, as 02 changes it, with the saturation pressure and the boundary evaluated as printed: no answer turns on where ps(T)
 -- stands. Assumes nothing.
-use mathlib.Core.Path.{◌≡◌, refl, sym, ap, ◌∙◌}
-use mathlib.Core.Bool.{Bool, true, false, not, cond, ◌&&◌, ◌||◌}
+use mathlib.Core.Path.{◌≡◌, refl, sym, ◌∙◌}
+use mathlib.Core.Bool.{Bool, true, false, not, cond, ◌||◌}
 use lib.Ieee.{Float, nan, inf, fin, lt, le, is_nan, round}
 use borrow.Author.Tests.{not-false}
 use Rattle.arith.specs.Bits.{finite}
 use Rattle.arith.specs.Printed.{printed}
-use Rattle.arith.proofs.Order.{le_not_nan, lt_is_not_le}
+use Rattle.arith.proofs.Order.{lt_is_not_le}
 use Rattle.saturation_line.specs.Printed.{equation28}
 use Rattle.saturation_line.specs.Pressure.{above623, ps_of}
 use Rattle.saturation_line.specs.declared.SaturationPressure.TheVariants.{UpTo623, Above623, Nowhere}

@@ -1,7 +1,6 @@
 -- P = ps(623.15), worked out, is 16.529164252604478 MPa, of the case up to 623.15 K, so that p ≤ P is a comparison with what Eq. (28) gives at 623.15 K.
 -- Assumes nothing.
 use mathlib.Core.Path.{◌≡◌, refl}
-use mathlib.Core.Bool.{Bool}
 use lib.Ieee.{Float, binary64, round, of_bits, of_int, add, sub, mul, div, neg, lt, eq, le}
 use Rattle.arith.specs.Printed.{printed}
 use Rattle.elementary.specs.Root.{floor_root, near_root, root_units, root_of}

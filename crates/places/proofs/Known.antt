@@ -9,7 +9,6 @@ use Rattle.workings.specs.Workings.{property_at}
 use Rattle.workings.proofs.AtNan.{liquid_at_nan}
 use Rattle.places.specs.Places.{wild, outside, p_triple, p_most, t273, t1073, saturates, saturated_of, ranged_of, place_py}
 use Rattle.places.specs.declared.Side.{Side}
-use Rattle.places.specs.declared.Side.TheVariants as Side
 
 below_nan : (y : Float) → lt y nan ≡ false
 unfolding lt

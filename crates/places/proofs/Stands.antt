@@ -9,9 +9,7 @@ use Rattle.places.specs.Places.{saturates, place_py}
 use Rattle.places.specs.Answers.{side_number_of, side_region_of, standing_number_of, standing_region_of}
 use Rattle.places.specs.Standing.{beside_line, beyond_line, standing_of, standing_py, side_of}
 use Rattle.places.specs.declared.Side.{Side}
-use Rattle.places.specs.declared.Side.TheVariants as Side
 use Rattle.places.specs.declared.Standing.{Standing}
-use Rattle.places.specs.declared.Standing.TheVariants as Standing
 
 either : (b : Bool) (ts : Float) (n : ℕ) → cond b (beside_line ts (Side.Refused n)) (beyond_line (Side.Refused n)) ≡ Standing.Refused n
 either true ts n = refl

@@ -3,11 +3,8 @@ use Rattle.std.specs.Prelude.{ℕ, List, [], ◌∷◌, Float}
 use Rattle.equations.specs.Equations as Equations
 use Rattle.equations.specs.Equations.{equation_of}
 use Rattle.places.specs.declared.Place.{Place}
-use Rattle.places.specs.declared.Place.TheVariants as Place
 use Rattle.places.specs.declared.Side.{Side}
-use Rattle.places.specs.declared.Side.TheVariants as Side
 use Rattle.places.specs.declared.Standing.{Standing}
-use Rattle.places.specs.declared.Standing.TheVariants as Standing
 use Rattle.places.specs.Standing.{side_of}
 
 -- ---- of (p,T): the refusal, 0 if there is none; the region, 0 if refused

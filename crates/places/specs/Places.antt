@@ -13,7 +13,6 @@ use Rattle.boundaries.specs.Boundaries.{p_b23, t_b23}
 use Rattle.places.specs.declared.Place.{Place}
 use Rattle.places.specs.declared.Place.TheVariants.{Equation, Refused}
 use Rattle.places.specs.declared.Side.{Side}
-use Rattle.places.specs.declared.Side.TheVariants as Side
 use Rattle.equations.specs.declared.Equation.TheVariants.{Region1, Region2, Region3, Region5}
 use Rattle.equations.specs.declared.Phase.TheVariants.{Liquid, Vapour}
 use Rattle.workings.specs.declared.Given.{Given}

@@ -5,7 +5,6 @@ use Rattle.saturation_line.specs.Printed.{ts_of}
 use Rattle.workings.specs.declared.Given.{Given}
 use Rattle.places.specs.Places.{saturates, place_py}
 use Rattle.places.specs.declared.Side.{Side}
-use Rattle.places.specs.declared.Side.TheVariants as Side
 use Rattle.places.specs.declared.Standing.{Standing}
 use Rattle.places.specs.declared.Standing.TheVariants.{Beside, Wet, Beyond, Refused}
 

@@ -2,7 +2,6 @@
 use Rattle.std.specs.Prelude.{ℕ, Bool, false, List, [], ◌∷◌}
 use Rattle.equations.specs.Equations as Equations
 use Rattle.reply.specs.declared.Answer.{Answer}
-use Rattle.reply.specs.declared.Answer.TheVariants as Answer
 use Rattle.properties.specs.declared.Value.{Value}
 use Rattle.properties.specs.declared.Value.TheVariants.{Is, Missing}
 

@@ -13,11 +13,9 @@ use Rattle.workings.specs.declared.Given.TheVariants.{Enthalpy, Entropy}
 use Rattle.equations.specs.declared.Phase.TheVariants.{Liquid, Vapour}
 use Rattle.places.specs.Places.{place_py}
 use Rattle.places.specs.declared.Side.{Side}
-use Rattle.places.specs.declared.Side.TheVariants as Side
 use Rattle.sums.specs.Queries.{placed_py, answer_py, answer_of}
 use Rattle.reply.specs.Answers as Sums
 use Rattle.reply.specs.declared.Answer.{Answer}
-use Rattle.reply.specs.declared.Answer.TheVariants as Answer
 use Rattle.settle.specs.Settle.{posted_of, given_of, bracket_of, judged_by, judged_of}
 use Rattle.settle.specs.Answers.{number_of, region_of, values_of}
 use Rattle.settle.specs.Phases.{phase_of}

@@ -8,7 +8,6 @@ use Rattle.states.specs.Marks.{marked_of}
 use Rattle.places.specs.Places.{t273, t1073, place_py, liquid_end, vapour_start}
 use Rattle.brackets.specs.declared.Bracket.{Bracket}
 use Rattle.places.specs.declared.Side.{Side}
-use Rattle.places.specs.declared.Side.TheVariants as Side
 use Rattle.workings.specs.declared.Given.{Given}
 use Rattle.workings.specs.declared.Given.TheVariants.{Enthalpy, Entropy}
 use Rattle.equations.specs.declared.Phase.{Phase}

@@ -1,6 +1,8 @@
 // The settling layer: what the desk may know of steam. A query of (p,h) or (p,s) is judged at its
 // post, its temperature bracket is halved one step a turn, and at the end its state is worked at the
 // middle of the bracket. What each call answers is said in specs/.
+#![tactic(auto)]
+
 mod naming;
 
 ghost use Rattle.std.specs.Prelude.{◌≡◌};

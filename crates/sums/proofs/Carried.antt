@@ -3,38 +3,28 @@
 -- tried as its trial says. Assumes nothing.
 use mathlib.Core.Path.{◌≡◌, refl, ap, ◌∙◌}
 use mathlib.Core.Bool.{Bool, true, false, cond, ◌&&◌}
-use mathlib.Core.List.{[], ◌∷◌}
-use mathlib.Core.Logic.{⊎_elim}
 use Prim.Native.Nat.{ℕ}
-use denote.Enum.Declared.{tag_of}
-use types.Run.{OneOf}
 use lib.Ieee.{Float}
 use Rattle.workings.specs.declared.Given.{Given}
 use Rattle.states.specs.Marks.{marked_of}
 use Rattle.workings.specs.Workings.{state_at, worked_at}
 use Rattle.places.specs.declared.Place.{Place}
-use Rattle.places.specs.declared.Place.TheVariants as Place
 use Rattle.places.specs.declared.Side.{Side}
-use Rattle.places.specs.declared.Side.TheVariants as Side
 use Rattle.places.specs.Places.{saturates, place_pt, place_py}
 use Rattle.places.specs.Standing.{beside_line, beyond_line, standing_of, standing_py}
 use Rattle.places.specs.declared.Standing.{Standing}
-use Rattle.places.specs.declared.Standing.TheVariants as Standing
 use Rattle.pull.specs.Pull.{pulled_to, in_reach}
 use Rattle.saturation_line.specs.Printed.{ts_of}
 use Rattle.equations.specs.Equations.{equation_of}
 use Rattle.equations.specs.declared.Phase.{Phase}
 use Rattle.states.specs.Mixing.{wet_of}
-use Rattle.sums.specs.contracts.outcomes.Outcome.{the_type}
 use Rattle.sums.proofs.Forward.{Forward}
 use Rattle.sums.proofs.Forward.Forward.{single, wet, refused}
 use Rattle.sums.specs.Queries.{first_of, placed_pt, answer_pt, temperature_of, kept_beside, placed_py, answer_py, close_of, agreed_of, tried_of}
 use Rattle.sums.specs.Quotients.{quotient_at}
 use Rattle.sums.specs.Outcomes.{outcome_of, quotient_carried, shown_of, found_of, quotient_found, verified_in, marked_in, own_trial, trial_of}
 use Rattle.reply.specs.declared.Answer.{Answer}
-use Rattle.reply.specs.declared.Answer.TheVariants as Answer
 use Rattle.sums.specs.declared.outcomes.Found.{Found}
-use Rattle.sums.specs.declared.outcomes.Found.TheVariants as Found
 use Rattle.sums.specs.declared.outcomes.Outcome.{Outcome}
 use Rattle.sums.specs.declared.outcomes.Outcome.TheVariants.{Single, Wet, Refused}
 

@@ -15,12 +15,9 @@ use Rattle.workings.specs.Workings.{state_at}
 use Rattle.saturation_line.specs.Printed.{ts_of}
 use Rattle.pull.specs.Pull.{in_reach}
 use Rattle.places.specs.declared.Place.{Place}
-use Rattle.places.specs.declared.Place.TheVariants as Place
 use Rattle.places.specs.declared.Side.{Side}
-use Rattle.places.specs.declared.Side.TheVariants as Side
 use Rattle.places.specs.Places.{wild, p_triple, saturates, place_pt, place_py}
 use Rattle.reply.specs.declared.Answer.{Answer}
-use Rattle.reply.specs.declared.Answer.TheVariants as Answer
 use Rattle.sums.specs.Queries.{placed_pt, answer_pt, placed_py, answer_py, pressure_of, is_in, candidate_h, candidate_s, close_of, agreed_of, tried_of, candidate_of, first_of, answer_hs, answer_of}
 
 pub data Forward : Answer → Type 0 where

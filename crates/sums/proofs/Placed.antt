@@ -8,12 +8,9 @@ use Rattle.workings.specs.declared.Given.{Given}
 use Rattle.places.specs.Answers as Places
 use Rattle.places.specs.Places.{place_pt, place_py}
 use Rattle.places.specs.declared.Place.{Place}
-use Rattle.places.specs.declared.Place.TheVariants as Place
 use Rattle.places.specs.declared.Side.{Side}
-use Rattle.places.specs.declared.Side.TheVariants as Side
 use Rattle.reply.specs.Answers.{number_of, region_of}
 use Rattle.reply.specs.declared.Answer.{Answer}
-use Rattle.reply.specs.declared.Answer.TheVariants as Answer
 use Rattle.sums.specs.Queries.{placed_pt, answer_pt, placed_py, answer_py}
 
 number_placed : (p t : Float) (w : Place) → number_of (placed_pt p t w) ≡ Places.number_of w

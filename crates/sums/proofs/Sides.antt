@@ -20,11 +20,9 @@ use Rattle.workings.specs.declared.Given.TheVariants.{Enthalpy}
 use Rattle.places.specs.Places.{wild, p_triple, saturates, place_pt, place_py}
 use Rattle.places.proofs.Known.{line_known}
 use Rattle.places.specs.declared.Side.{Side}
-use Rattle.places.specs.declared.Side.TheVariants as Side
 use Rattle.pull.specs.Pull.{is_past, is_beside, past_by, pulled_to, reach, in_reach}
 use Rattle.pull.proofs.Sides.{line_not_past, pulled_not_past, not_past_is_beside, not_past_kept, beside_is_not_past, not_past_out_of_reach, further_out_of_reach}
 use Rattle.reply.specs.declared.Answer.{Answer}
-use Rattle.reply.specs.declared.Answer.TheVariants as Answer
 use Rattle.sums.specs.Queries.{temperature_of, kept_beside, placed_py, answer_py, pressure_of, is_in, candidate_h, candidate_s, close_of, agreed_of, tried_of, candidate_of, first_of, answer_hs}
 
 -- ---- a state of one phase that (p,h) or (p,s) gives is that of its phase at the T kept beside the line

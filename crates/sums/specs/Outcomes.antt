@@ -13,13 +13,9 @@ use Rattle.states.specs.Marks.{met_at, single_of, marked_of, full_of, handed_out
 use Rattle.workings.specs.declared.Given.{Given}
 use Rattle.slopes.specs.Slopes.{ratio_at}
 use Rattle.slopes.specs.declared.Derivative.{Derivative}
-use Rattle.slopes.specs.declared.Derivative.TheVariants as Derivative
 use Rattle.reply.specs.declared.Answer.{Answer}
-use Rattle.reply.specs.declared.Answer.TheVariants as Answer
 use Rattle.sums.specs.declared.outcomes.Found.{Found}
-use Rattle.sums.specs.declared.outcomes.Found.TheVariants as Found
 use Rattle.sums.specs.declared.outcomes.Outcome.{Outcome}
-use Rattle.sums.specs.declared.outcomes.Outcome.TheVariants as Outcome
 
 -- ---- where a state lies
 

@@ -16,9 +16,7 @@ use Rattle.workings.specs.declared.Given.TheVariants.{Enthalpy, Entropy}
 use Rattle.pull.specs.Pull.{pulled_to, in_reach}
 use Rattle.places.specs.Places.{wild, p_triple, saturates, place_pt, place_py}
 use Rattle.places.specs.declared.Place.{Place}
-use Rattle.places.specs.declared.Place.TheVariants as Place
 use Rattle.places.specs.declared.Side.{Side}
-use Rattle.places.specs.declared.Side.TheVariants as Side
 use Rattle.equations.specs.declared.Phase.{Phase}
 use Rattle.equations.specs.declared.Phase.TheVariants.{Liquid, Vapour}
 use Rattle.reply.specs.declared.Answer.{Answer}

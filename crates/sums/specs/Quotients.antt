@@ -6,7 +6,6 @@ use Rattle.slopes.specs.declared.Derivative.{Derivative}
 use Rattle.slopes.specs.declared.Derivative.TheVariants.{Refused}
 use Rattle.sums.specs.Queries.{answer_of}
 use Rattle.reply.specs.declared.Answer.{Answer}
-use Rattle.reply.specs.declared.Answer.TheVariants as Answer
 
 -- of a state of one phase alone
 abbrev pub quotient_at : Answer → ℕ → ℕ → ℕ → Derivative
