@@ -1,6 +1,8 @@
 // What the program `saturation` writes of temperatures that stand in words (specs/Listing.antt): the
 // text goes into a slice that the caller lends, its room, and the place behind it is answered. Where
 // the room ends first, the text is cut there.
+#![tactic(auto)]
+
 mod lines;
 
 ghost use Rattle.std.specs.Prelude.{◌≡◌};
