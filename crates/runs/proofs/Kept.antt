@@ -13,7 +13,6 @@ use Rattle.settle.proofs.Phases.{phase_region}
 use Rattle.ledger.specs.declared.Row.{Row}
 use Rattle.ledger.specs.declared.Desk.{Desk}
 use Rattle.runs.specs.declared.Answer.{Answer}
-use Rattle.runs.specs.declared.Answer.TheVariants as Answer
 use Rattle.runs.specs.declared.Open.{Open}
 use Rattle.runs.specs.declared.Open.TheVariants.{At, Closed}
 use Rattle.ledger.specs.Search.{bit}

@@ -52,5 +52,5 @@ module _ (d : Desk) (g : Good d) (c t i : ℕ) (place : i < 32) (has : held c t 
 
       go : (k : ℕ) → 32 * k ≤ turns xs → (row d i).halvings + k ≤ (row d i).number → (b : Bool)
           → ltb (row (after_from d xs) j).halvings (row (after_from d xs) j).number ≡ b → k ≤ f.more
-      go k m r true e = let s = ltb-true _ _ e in omega (arith, f.pace s)
+      go k m r true e = let s = ltb-true (row (after_from d xs) j).halvings (row (after_from d xs) j).number e in omega (arith, f.pace s)
       go k m r false e = let s = ltb-false (row (after_from d xs) j).halvings (row (after_from d xs) j).number e in omega (arith, f.counts, f.number_posted)

@@ -8,7 +8,6 @@ use native.Mathlib.Omega.{arith}
 use lib.Dec.{ltb}
 use lib.Ieee.{Float}
 use Rattle.settle.specs.declared.Judged.{Judged}
-use Rattle.settle.specs.declared.Judged.TheVariants as Judged
 use Rattle.settle.specs.declared.Settled.{Settled}
 use Rattle.settle.specs.Settle.{judged_of}
 use Rattle.ledger.specs.declared.Desk.{Desk}

@@ -3,7 +3,6 @@ use Rattle.std.specs.Prelude.{◌≡◌, Bool, true, false, List, [], ◌∷◌,
 use Rattle.ledger.specs.declared.Desk.{Desk}
 use Rattle.settle.specs.declared.Settled.{Settled}
 use Rattle.runs.specs.declared.Answer.{Answer}
-use Rattle.runs.specs.declared.Answer.TheVariants as Answer
 use Rattle.runs.specs.declared.Outcome.{Outcome}
 
 -- the refusal, 0 if there is none

@@ -6,13 +6,11 @@ use Rattle.ledger.specs.declared.Desk.{Desk}
 use Rattle.ledger.specs.Rows.{most, blank, row, counted, held, of_caller, vacant, unfinished, tally, onward, lowest, put, between, nameable, sound}
 use Rattle.brackets.specs.declared.Bracket.{Bracket}
 use Rattle.settle.specs.declared.Judged.{Judged}
-use Rattle.settle.specs.declared.Judged.TheVariants as Judged
 use Rattle.settle.specs.declared.Settled.{Settled}
 use Rattle.settle.specs.Phases.{region_of, phase_of}
 use Rattle.settle.specs.Settle.{judged_of, halved_of, settled_of}
 use Rattle.equations.specs.declared.Phase.{Phase}
 use Rattle.runs.specs.declared.Answer.{Answer}
-use Rattle.runs.specs.declared.Answer.TheVariants as Answer
 use Rattle.runs.specs.declared.Outcome.{Outcome}
 use Rattle.runs.specs.declared.Open.{Open}
 use Rattle.runs.specs.declared.Open.TheVariants.{At, Closed}

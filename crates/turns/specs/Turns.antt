@@ -3,7 +3,6 @@ use Rattle.std.specs.Prelude.{ℕ, zero, suc, ◌+◌}
 use Rattle.runs.specs.Model.{turn_of}
 use Rattle.ledger.specs.declared.Desk.{Desk}
 use Rattle.runs.specs.declared.Answer.{Answer}
-use Rattle.runs.specs.declared.Answer.TheVariants as Answer
 use Rattle.turns.specs.declared.Turned.{Turned}
 
 -- one turn more, which gave this answer and left this desk; of the answers a turn gives only three

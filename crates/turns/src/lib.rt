@@ -1,4 +1,6 @@
 // Turns of the desk one after the other, to whomever they fall (specs/Turns.antt).
+#![tactic(auto)]
+
 ghost use Rattle.std.specs.Prelude.{◌≡◌, ◌<◌};
 ghost use Rattle.turns.specs.Turns.{after_turn, turns_of};
 

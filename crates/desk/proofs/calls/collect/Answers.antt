@@ -1,0 +1,40 @@
+-- `desk::calls::collect` meets its contract: the refusal of the ticket, or 12 while halvings are to go, or the state of its row, which is freed. Assumes nothing.
+use mathlib.Core.Path.{◌≡◌, sym, ◌∙◌}
+use Prim.Native.Nat.{ℕ, ◌<◌}
+use Rattle.ledger.specs.declared.Desk.{Desk}
+use Rattle.runs.specs.declared.Open.{Open}
+use Rattle.runs.specs.declared.Open.TheVariants.{At}
+use Rattle.ledger.proofs.Lists.{row_fits}
+use Rattle.runs.proofs.Tickets.{open_seat}
+use Rattle.runs.specs.Model.{open_of, collect_of, collect_at}
+use Rattle.desk.proofs.Ways.{collect_early, collect_hands}
+use Rattle.desk.proofs.calls.collect.Goals as goal
+
+-- the row that the look-up found is that of the ticket, and one of the desk's
+opened : (d : Desk) (caller ticket : ℕ) {i : ℕ} {o : Open} → o ≡ open_of d caller ticket → o ≡ At i → open_of d caller ticket ≡ At i
+opened d caller ticket e is = sym e ∙ is
+
+inside : (d : Desk) (caller ticket : ℕ) {i : ℕ} {o : Open} → o ≡ open_of d caller ticket → o ≡ At i → i < 32
+inside d caller ticket e is = (open_seat d caller ticket _ (opened d caller ticket e is)).place
+
+pub offset_bounds-d-i : goal.offset_bounds-d-i
+offset_bounds-d-i c = row_fits _ (inside c.args.d c.args.caller c.args.ticket c.look_up-o.ensures c.in-At.is)
+
+pub bounds-d-i : goal.bounds-d-i
+bounds-d-i c = inside c.args.d c.args.caller c.args.ticket c.look_up-o.ensures c.in-At.is
+
+pub returns-then-r : goal.returns-then-r
+returns-then-r c =
+    c.refused-then-r.ensures ∙ collect_early c.args.d _ c.well_formed.0 _ _ _ _ (opened c.args.d c.args.caller c.args.ticket c.look_up-o.ensures c.in-At.is) c.if-r.true
+
+pub freed-e-requires : goal.freed-e-requires
+freed-e-requires c = inside c.args.d c.args.caller c.args.ticket c.look_up-o.ensures c.in-At.is
+
+pub returns-in-Closed : goal.returns-in-Closed
+unfolding collect_of collect_at
+returns-in-Closed c = rw (← c.look_up-o.ensures, c.in-Closed.is) c.refused.ensures
+
+pub returns-else-r : goal.returns-else-r
+returns-else-r c =
+    rw (c.freed-e.ensures, c.settled_at-s.ensures, c.phase.ensures)
+    (collect_hands c.args.d _ c.well_formed.0 _ _ _ _ (opened c.args.d c.args.caller c.args.ticket c.look_up-o.ensures c.in-At.is) c.if-r.false)
