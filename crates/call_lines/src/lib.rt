@@ -1,4 +1,6 @@
 // The line of a call: its number and name, the refusal or 0, and what was handed out (specs/Lines.antt).
+#![tactic(auto)]
+
 ghost use Rattle.std.specs.Prelude.{◌≡◌, [], ◌∷◌, ◌++◌, replicate};
 ghost use Rattle.text.specs.Room.{Written};
 ghost use Rattle.text.specs.Texts.{decimal_of, value_of, blank, newline, number_column, float_column};

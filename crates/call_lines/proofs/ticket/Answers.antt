@@ -1,0 +1,7 @@
+-- `call_lines::ticket` meets its contract: a zero and a number, one behind the other. Assumes nothing.
+use Rattle.text.proofs.Pieces.{then}
+use Rattle.call_lines.proofs.ticket.Goals as goal
+
+pub returns : goal.returns
+returns c =
+    then c.bytes-at.ensures c.decimal.ensures
