@@ -9,7 +9,6 @@ use Rattle.runs.specs.Runs as Runs
 use Rattle.ledger.specs.declared.Desk.{Desk}
 use Rattle.runs.proofs.Own.{after_append}
 use Rattle.records.specs.declared.Deed.{Deed}
-use Rattle.records.specs.declared.Deed.TheVariants as Deed
 use Rattle.turns.proofs.TurnLaws.{turns_desk}
 use Rattle.transcript.specs.Steps.{call_of, desk_after, standing, deed_at}
 

@@ -1,6 +1,8 @@
 // What `replay` does with a run of desk calls, record by record: what each does to the desk, and the text
 // that it writes. What is read is said in `records`, what it does in specs/Steps.antt, and what is written
 // there, in specs/Lines.antt, and in `call_lines` and `desk_lines`.
+#![tactic(auto)]
+
 mod lines;
 mod steps;
 
