@@ -47,6 +47,7 @@ impl Reading {
 }
 
 // What a trailer's four words say, with t bytes before it.
+#[tactic(auto, unfolding(crate::specs::Read::judged))]
 fn judge(t: usize, count: usize, back: usize, version: u64, last: u64) -> Reading
     requires { count < 4294967296 }
     ensures { result ≡ judged t count back version last }
