@@ -1,0 +1,38 @@
+-- `written::answered` meets its contract: the sheet, or the line of a refusal, stands whole in the room. Assumes nothing.
+use mathlib.Core.Path.{sym, ap, subst}
+use mathlib.Core.List.{List}
+use Prim.Native.Nat.{ℕ}
+use native.Mathlib.Omega.{arith}
+use lib.ListN.{length, take, drop, length-append, length-drop}
+use lib.Seq.{length-take-le}
+use Rattle.text.specs.Room.{Whole}
+use Rattle.text.proofs.Pieces.{uncut}
+use Rattle.row_lines.proofs.Fits.{refused_short}
+use Rattle.written.proofs.Laws.{answered, refusal, room_kept}
+use Rattle.written.proofs.answered.Goals as goal
+
+pub slice_bounds-write-end-2 : goal.slice_bounds-write-end-2
+slice_bounds-write-end-2 c = sym (length-take-le c.args.most c.args.room.now (omega arith))
+
+pub returns-then-number-eq0 : goal.returns-then-number-eq0
+returns-then-number-eq0 c =
+    answered c.args.note.now c.args.rows.now (take c.args.most c.args.room.now) (drop c.args.most c.args.room.now)
+    (length-take-le c.args.most c.args.room.now (omega arith))
+    c.write-w.ensures.0
+    c.write-w.ensures.1
+    c.number.ensures
+    c.if-number-eq0.true
+    c.length.ensures
+
+pub returns : goal.returns
+returns c =
+    let most = c.args.most in
+    let room = c.args.room.now in
+    let note = c.args.note.now in
+    let rows = c.args.rows.now in
+    let size = length-take-le most room (omega arith) in
+    let kept = room_kept note rows (take most room) c.write-w.ensures.0 c.write-w.ensures.1 c.number.ensures c.if-number-eq0.false in
+    let whole = length-append c.write-w.new.out (drop most room) in
+    subst (λ (t : List ℕ). Whole c.refused.new.out t c.refused.result)
+    (refusal note rows (take most room) size c.write-w.ensures.0 c.number.ensures c.if-number-eq0.false c.number-2.ensures)
+    (uncut c.refused.ensures (omega (arith, refused_short c.number-2.result, whole, ap length kept, size, length-drop most room, c.requires.1)))
