@@ -7,11 +7,11 @@ use Rattle.dense.proofs.region3.Region3.point.Reads as point
 use Rattle.dense.proofs.region3.Region3.phi.Kinds as phi_kinds
 use Rattle.dense.proofs.region3.Region3.phi.Reads as phi
 use Rattle.dense.proofs.region3.Region3.pressure_of.Kinds as pressure_of_kinds
-use Rattle.dense.proofs.region3.Region3.pressure_of.Reads as pressure_of_lem
+use Rattle.dense.proofs.region3.Region3.pressure_of.Reads as pressure_of_reads
 use Rattle.dense.proofs.region3.Region3.pressure.Kinds as pressure_kinds
 use Rattle.dense.proofs.region3.Region3.pressure.Reads as pressure
 use Rattle.dense.proofs.region3.Region3.unrooted_of.Kinds as unrooted_of_kinds
-use Rattle.dense.proofs.region3.Region3.unrooted_of.Reads as unrooted_of_lem
+use Rattle.dense.proofs.region3.Region3.unrooted_of.Reads as unrooted_of_reads
 use Rattle.dense.proofs.region3.Region3.state_of.Kinds as state_of_kinds
 use Rattle.dense.proofs.region3.Region3.state_of.Reads as state_of
 use Rattle.dense.proofs.region3.Region3.state.Kinds as state_kinds
@@ -27,13 +27,13 @@ point_only κs a x y s t p q = p ∙ sym q
 pub phi_only : Only 0 phi_kinds.ps phi_kinds.r phi.Post
 phi_only κs a x y s t p q = p ∙ sym q
 
-pub pressure_of_only : Only 0 pressure_of_kinds.ps pressure_of_kinds.r pressure_of_lem.Post
+pub pressure_of_only : Only 0 pressure_of_kinds.ps pressure_of_kinds.r pressure_of_reads.Post
 pressure_of_only κs a x y s t p q = p ∙ sym q
 
 pub pressure_only : Only 0 pressure_kinds.ps pressure_kinds.r pressure.Post
 pressure_only κs a x y s t p q = p ∙ sym q
 
-pub unrooted_of_only : Only 0 unrooted_of_kinds.ps unrooted_of_kinds.r unrooted_of_lem.Post
+pub unrooted_of_only : Only 0 unrooted_of_kinds.ps unrooted_of_kinds.r unrooted_of_reads.Post
 unrooted_of_only κs a x y s t p q = p ∙ sym q
 
 pub state_of_only : Only 0 state_of_kinds.ps state_of_kinds.r state_of.Post

@@ -3,7 +3,7 @@
 use mathlib.Core.Path.{sym, ◌∙◌}
 use Rattle.arith.proofs.Only.{Only}
 use Rattle.desk.proofs.calls.new_desk.Kinds as new_desk_kinds
-use Rattle.desk.proofs.calls.new_desk.Reads as new_desk_lem
+use Rattle.desk.proofs.calls.new_desk.Reads as new_desk_reads
 use Rattle.desk.proofs.calls.post.Kinds as post_kinds
 use Rattle.desk.proofs.calls.post.Reads as post
 use Rattle.desk.proofs.calls.turn.Kinds as turn_kinds
@@ -15,7 +15,7 @@ use Rattle.desk.proofs.calls.collect.Reads as collect
 use Rattle.desk.proofs.calls.withdraw.Kinds as withdraw_kinds
 use Rattle.desk.proofs.calls.withdraw.Reads as withdraw
 
-pub new_desk_only : Only 0 new_desk_kinds.ps new_desk_kinds.r new_desk_lem.Post
+pub new_desk_only : Only 0 new_desk_kinds.ps new_desk_kinds.r new_desk_reads.Post
 new_desk_only κs a x y s t p q = p ∙ sym q
 
 pub post_only : Only 0 post_kinds.ps post_kinds.r post.Post

@@ -10,7 +10,7 @@ use Rattle.listing.proofs.listings.answers.Reads as answers
 use Rattle.listing.proofs.opening.triples.Kinds as triples_kinds
 use Rattle.listing.proofs.opening.triples.Reads as triples
 use Rattle.listing.proofs.derivatives.quotients_head.Kinds as quotients_head_kinds
-use Rattle.listing.proofs.derivatives.quotients_head.Reads as quotients_head_lem
+use Rattle.listing.proofs.derivatives.quotients_head.Reads as quotients_head_reads
 use Rattle.listing.proofs.derivatives.quotients.Kinds as quotients_kinds
 use Rattle.listing.proofs.derivatives.quotients.Reads as quotients
 
@@ -23,7 +23,7 @@ answers_only κs a x y s t p q = (p.place ∙ sym q.place, p.room ∙ sym q.room
 pub triples_only : Only 1 triples_kinds.ps triples_kinds.r triples.Post
 triples_only κs a x y s t p q = p ∙ sym q
 
-pub quotients_head_only : OnlyRoom 1 quotients_head_kinds.ps quotients_head_kinds.r (λ κs s. s.1.0.now) quotients_head_lem.Post
+pub quotients_head_only : OnlyRoom 1 quotients_head_kinds.ps quotients_head_kinds.r (λ κs s. s.1.0.now) quotients_head_reads.Post
 quotients_head_only κs a x y s t p q = (p.place ∙ sym q.place, p.room ∙ sym q.room)
 
 pub quotients_only : OnlyRoom 2 quotients_kinds.ps quotients_kinds.r (λ κs s. s.1.1.1.0.now) quotients.Post

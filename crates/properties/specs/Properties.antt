@@ -1,5 +1,5 @@
 -- The properties of a state from the dimensionless Gibbs free energy γ and its derivatives: 002, Tables 2 and 4, which differ only in the speed of sound.
--- R-as-T is formed first. Definitions only.
+-- R·T is formed first. Definitions only.
 use Rattle.std.specs.Prelude.{Float}
 use Rattle.std.specs.Float.Ieee.{neg}
 use Rattle.arith.specs.F64.{f64, ◌⊖◌, ◌⊗◌, ◌⊘◌}
@@ -12,7 +12,7 @@ use Rattle.properties.specs.declared.Point.{Point}
 abbrev pub reduced_by : (R pr tr p t : Float) → Point
 reduced_by R pr tr p t = record { r = R; p = p; t = t; pi = p ⊘ pr; tau = tr ⊘ t }
 
--- h = (R-as-T)·τ·γτ
+-- h = (R·T)·τ·γτ
 abbrev pub enthalpy_of : Point → Float → Float
 enthalpy_of x γτ = x.r ⊗ x.t ⊗ x.tau ⊗ γτ
 
@@ -20,7 +20,7 @@ enthalpy_of x γτ = x.r ⊗ x.t ⊗ x.tau ⊗ γτ
 abbrev pub entropy_of : Point → Float → Float → Float
 entropy_of x γ γτ = x.r ⊗ (x.tau ⊗ γτ ⊖ γ)
 
--- All six, of w its square. `quotient` is what Tables 2 and 4 print for w²/(R-as-T), and w is in m/s: hence the second 1000.
+-- All six, of w its square. `quotient` is what Tables 2 and 4 print for w²/(R·T), and w is in m/s: hence the second 1000.
 unfoldable pub unrooted_of : Point → (γ γπ γτ γττ quotient : Float) → Unrooted
 unrooted_of x γ γπ γτ γττ quotient =
     let RT = x.r ⊗ x.t in

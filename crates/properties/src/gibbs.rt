@@ -32,7 +32,7 @@ pub fn entropy(x: Point, g: f64, gt: f64) -> f64
     x.r * (x.tau * gt - g)
 }
 
-// The six properties with w squared, from γ, γπ, γτ, γττ and the quotient that is w²/(R.T).
+// The six properties with w squared, from γ, γπ, γτ, γττ and the quotient that is w²/(R·T).
 pub fn from_gamma(x: Point, g: f64, gp: f64, gt: f64, gtt: f64, quotient: f64) -> Unrooted
     ensures { result ≡ unrooted_of x g gp gt gtt quotient }
 {

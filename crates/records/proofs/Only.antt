@@ -5,10 +5,10 @@ use Rattle.arith.proofs.Only.{Only}
 use Rattle.records.proofs.deeds.read.Kinds as read_kinds
 use Rattle.records.proofs.deeds.read.Reads as read
 use Rattle.records.proofs.desks.desk_in.Kinds as desk_in_kinds
-use Rattle.records.proofs.desks.desk_in.Reads as desk_in_lem
+use Rattle.records.proofs.desks.desk_in.Reads as desk_in_reads
 
 pub read_only : Only 1 read_kinds.ps read_kinds.r read.Post
 read_only κs a x y s t p q = p ∙ sym q
 
-pub desk_in_only : Only 1 desk_in_kinds.ps desk_in_kinds.r desk_in_lem.Post
+pub desk_in_only : Only 1 desk_in_kinds.ps desk_in_kinds.r desk_in_reads.Post
 desk_in_only κs a x y s t p q = p ∙ sym q

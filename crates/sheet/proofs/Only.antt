@@ -11,7 +11,7 @@ use Rattle.sheet.proofs.reader.Reading.count.Reads as count
 use Rattle.sheet.proofs.reader.Reading.start.Kinds as start_kinds
 use Rattle.sheet.proofs.reader.Reading.start.Reads as start
 use Rattle.sheet.proofs.rows.kinds_known.Kinds as kinds_known_kinds
-use Rattle.sheet.proofs.rows.kinds_known.Reads as kinds_known_lem
+use Rattle.sheet.proofs.rows.kinds_known.Reads as kinds_known_reads
 use Rattle.sheet.proofs.rows.row.Kinds as row_kinds
 use Rattle.sheet.proofs.rows.row.Reads as row
 
@@ -27,7 +27,7 @@ count_only κs a x y s t p q = p ∙ sym q
 pub start_only : Only 0 start_kinds.ps start_kinds.r start.Post
 start_only κs a x y s t p q = p ∙ sym q
 
-pub kinds_known_only : Only 1 kinds_known_kinds.ps kinds_known_kinds.r kinds_known_lem.Post
+pub kinds_known_only : Only 1 kinds_known_kinds.ps kinds_known_kinds.r kinds_known_reads.Post
 kinds_known_only κs a x y s t p q = p ∙ sym q
 
 pub row_only : Only 1 row_kinds.ps row_kinds.r row.Post

@@ -6,7 +6,7 @@ use Rattle.vapour.proofs.vapours.gibbs.Reads as gibbs
 use Rattle.vapour.proofs.vapours.added.Kinds as added_kinds
 use Rattle.vapour.proofs.vapours.added.Reads as added
 use Rattle.vapour.proofs.vapours.unrooted_at.Kinds as unrooted_at_kinds
-use Rattle.vapour.proofs.vapours.unrooted_at.Reads as unrooted_at_lem
+use Rattle.vapour.proofs.vapours.unrooted_at.Reads as unrooted_at_reads
 use Rattle.vapour.proofs.vapours.response_at.Kinds as response_at_kinds
 use Rattle.vapour.proofs.vapours.response_at.Reads as response_at
 
@@ -16,7 +16,7 @@ gibbs_only κs a x y s t p q = p ∙ sym q
 pub added_only : Only 0 added_kinds.ps added_kinds.r added.Post
 added_only κs a x y s t p q = p ∙ sym q
 
-pub unrooted_at_only : Only 0 unrooted_at_kinds.ps unrooted_at_kinds.r unrooted_at_lem.Post
+pub unrooted_at_only : Only 0 unrooted_at_kinds.ps unrooted_at_kinds.r unrooted_at_reads.Post
 unrooted_at_only κs a x y s t p q = p ∙ sym q
 
 pub response_at_only : Only 0 response_at_kinds.ps response_at_kinds.r response_at.Post

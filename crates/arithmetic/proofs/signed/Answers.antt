@@ -1,3 +1,4 @@
+-- `arithmetic::signed` is safe: a byte, less 256 or not, is from -256 to 255. Assumes nothing.
 use Prim.Native.Nat.{ℕ, ◌%◌, ◌<◌}
 use native.Mathlib.Omega.{arith}
 use borrow.Author.Tests.{lt-ltb}
@@ -7,7 +8,6 @@ use mir.Val.{SFits}
 use mir.Facts.{to_z_pos}
 use Rattle.arithmetic.proofs.signed.Goals as goal
 
--- `arithmetic::signed` is safe: a byte, less 256 or not, is from -256 to 255. Assumes nothing.
 below : (l : ℕ) → l < 256 → SFits w16 (pos l -ℤ pos 256)
 below l k = rw (lt-ltb l 256 k) (record { sfits = omega arith })
 

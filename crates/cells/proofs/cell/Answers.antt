@@ -1,7 +1,7 @@
+-- `cells::cell` meets its contract, case by case. Assumes nothing.
 use mathlib.Core.Path.{refl}
 use Rattle.cells.proofs.cell.Goals as goal
 
--- `cells::cell` meets its contract, case by case. Assumes nothing.
 pub returns-in-Is : goal.returns-in-Is
 returns-in-Is c = rw c.in-Is.is refl
 

@@ -1,3 +1,4 @@
+-- `desk_lines::counts` meets its contract: a loop of seven counts, and the eighth. Assumes nothing.
 use native.Mathlib.Omega.{arith}
 use Rattle.text.specs.Texts.{blank, number_column}
 use Rattle.text.proofs.Pieces.{then, kept}

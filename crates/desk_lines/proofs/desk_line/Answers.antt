@@ -1,8 +1,8 @@
+-- `desk_lines::desk_line` meets its contract: number, words, pointer, words and counts, one behind the other. Assumes nothing.
 use Rattle.text.proofs.Pieces.{then}
 use Rattle.desk_lines.specs.Lines.{desk_line}
 use Rattle.desk_lines.proofs.desk_line.Goals as goal
 
--- `desk_lines::desk_line` meets its contract: number, words, pointer, words and counts, one behind the other. Assumes nothing.
 pub returns : goal.returns
 unfolding desk_line
 returns c =

@@ -1,3 +1,4 @@
+-- `desk_lines::row_line` meets its contract: nothing for an empty row, else twelve pieces, one behind the other. Assumes nothing.
 use mathlib.Core.Path.{◌≡◌}
 use mathlib.Core.Bool.{true, false, not}
 use mathlib.Core.List.{List, [], ◌∷◌, ◌++◌}
@@ -9,7 +10,6 @@ use Rattle.text.proofs.Pieces.{none, then, said, kept}
 use Rattle.desk_lines.specs.Lines.{row_line}
 use Rattle.desk_lines.proofs.row_line.Goals as goal
 
--- `desk_lines::row_line` meets its contract: nothing for an empty row, else twelve pieces, one behind the other. Assumes nothing.
 -- the columns of a row that is filled
 abbrev columns : ℕ → Row → List ℕ
 columns i r =

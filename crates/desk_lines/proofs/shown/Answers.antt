@@ -1,3 +1,4 @@
+-- `desk_lines::shown` meets its contract: the desk's line, and a loop over the rows. Assumes nothing.
 use mathlib.Core.Path.{sym, ap}
 use native.Mathlib.Omega.{arith}
 use Rattle.text.proofs.Pieces.{then, said, kept}

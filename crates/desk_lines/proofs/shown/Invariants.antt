@@ -1,3 +1,4 @@
+-- `desk_lines::shown` meets its contract: the desk's line, and a loop over the rows. Assumes nothing.
 use Prim.Native.Nat.{◌-◌, ◌≤◌}
 use Rattle.text.specs.Room.{Written}
 use Rattle.text.specs.Texts.{joined}
@@ -5,7 +6,6 @@ use Rattle.ledger.specs.Rows.{row}
 use Rattle.desk_lines.specs.Lines.{row_line}
 use Rattle.desk_lines.proofs.shown.Given as goal
 
--- `desk_lines::shown` meets its contract: the desk's line, and a loop over the rows. Assumes nothing.
 abbrev pub invariant-loop-i : goal.invariant-loop-i
 invariant-loop-i l = (l.i ≤ 32) × Written l.initial.out l.initial.p (joined (λ k. row_line k (row l.d k)) l.i) l.out l.p
 

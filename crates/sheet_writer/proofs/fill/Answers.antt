@@ -1,3 +1,4 @@
+-- `sheet_writer::fill` meets its contract: three pieces, one behind the other, are the sheet. Assumes nothing.
 use mathlib.Core.Path.{ap, ◌∙◌}
 use mathlib.Core.List.{List, ◌++◌}
 use Prim.Native.Nat.{ℕ, ◌/◌}
@@ -6,7 +7,6 @@ use Rattle.text.proofs.Pieces.{then, said}
 use Rattle.sheet_writer.specs.Write.{trailer_bytes, sheet_of}
 use Rattle.sheet_writer.proofs.fill.Goals as goal
 
--- `sheet_writer::fill` meets its contract: three pieces, one behind the other, are the sheet. Assumes nothing.
 pub returns : goal.returns
 unfolding sheet_of
 returns c =

@@ -1,3 +1,4 @@
+-- `sheet_writer::judge` meets its contract: at each `return` the tests that led there say which case of `write_of` holds. Assumes nothing.
 use borrow.Author.Tests.{eq-eqb, ne_eqb, le-leb, lt-leb}
 use mathlib.Core.Path.{◌≡◌, sym, ap, ◌∙◌}
 use mathlib.Core.Bool.{Bool, true, false}
@@ -6,7 +7,6 @@ use Rattle.versions.specs.Versions.{allowed, version_for}
 use Rattle.sheet_writer.specs.Write.{write_of}
 use Rattle.sheet_writer.proofs.judge.Goals as goal
 
--- `sheet_writer::judge` meets its contract: at each `return` the tests that led there say which case of `write_of` holds. Assumes nothing.
 -- what was answered of the count n, in the version v
 k1 : (n : ℕ) {v : ℕ} {r : Bool} (b : Bool) → v ≡ version_for n → r ≡ allowed v n → r ≡ b → allowed (version_for n) n ≡ b
 k1 n b e f h = sym (f ∙ ap (λ (v : ℕ). allowed v n) e) ∙ h

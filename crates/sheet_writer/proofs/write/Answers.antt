@@ -1,9 +1,9 @@
+-- `sheet_writer::write` meets its contract: on a refusal nothing is touched, else the sheet is filled in, which then fits. Assumes nothing.
 use mathlib.Core.Path.{sym, ◌∙◌}
 use native.Mathlib.Omega.{arith}
 use Rattle.sheet_writer.proofs.WriteLaws.{written, written_small, room_written, room_refused}
 use Rattle.sheet_writer.proofs.write.Goals as goal
 
--- `sheet_writer::write` meets its contract: on a refusal nothing is touched, else the sheet is filled in, which then fits. Assumes nothing.
 pub fill-requires : goal.fill-requires
 fill-requires c = omega (arith, written_small _ _ _ _ (written _ _ _ _ (sym c.in-Length.ensures)))
 

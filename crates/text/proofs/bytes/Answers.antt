@@ -1,3 +1,5 @@
+-- `text::bytes` meets its contract. The invariant: the first i bytes are pasted into the room from its place on, and the room is as long as it was.
+-- The loop ends at the number of bytes that fit, so what is pasted then is what `placed` says. The measure is how many of them are left. Assumes nothing.
 use Prim.Native.Nat.{ℕ, ◌+◌, ◌<◌}
 use mathlib.Core.Path.{◌≡◌, refl, sym, ap, ◌∙◌}
 use native.Mathlib.Nat.{le_antisymm}

@@ -1,3 +1,4 @@
+-- `text::column` meets its contract, case by case: `-` where there is no value, `nan` for what differs from itself, and else the bits. Assumes nothing.
 use mathlib.Core.Path.{◌≡◌, refl, sym, subst, ap, ◌∙◌}
 use mathlib.Core.Bool.{Bool, true, false, not, true≢false, cond}
 use mathlib.Core.List.{[], ◌∷◌, ◌++◌}
@@ -11,7 +12,6 @@ use Rattle.text.specs.declared.Cell.TheVariants.{Value}
 use Rattle.text.proofs.Pieces.{said, reads}
 use Rattle.text.proofs.column.Goals as goal
 
--- `text::column` meets its contract, case by case: `-` where there is no value, `nan` for what differs from itself, and else the bits. Assumes nothing.
 -- the test is whether a value is the NaN
 is-nan : (x : Float) → ne x x ≡ true → is_nan x ≡ true
 unfolding is_nan

@@ -1,3 +1,5 @@
+-- `text::decimal` meets its contract. The invariant: the digits left to be written, with what stands behind them, are the whole text (`decimal_next`
+-- moves one digit over), and there is a place for each. The measure is how many places are left. Assumes nothing.
 use Prim.Native.Nat.{ℕ, ◌+◌, ◌-◌, ◌≤◌}
 use mathlib.Core.Path.{◌≡◌, refl, ap, ◌∙◌}
 use mathlib.Core.List.{◌++◌}

@@ -1,3 +1,5 @@
+-- `text::hex` meets its contract. The invariant: the digits left to be written, with what stands behind them, are the whole text (`hex_next` moves one
+-- digit over). At the end none is left. The measure is how many are. Assumes nothing.
 use Prim.Native.Nat.{ℕ, ◌+◌, ◌-◌, ◌/◌}
 use mathlib.Core.Path.{◌≡◌, refl, ap, ◌∙◌}
 use mathlib.Core.List.{◌++◌}

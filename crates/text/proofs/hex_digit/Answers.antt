@@ -1,8 +1,8 @@
+-- `text::hex_digit` meets its contract: the test is the one that `hex_digit` goes by. Assumes nothing.
 use borrow.Author.Tests.{lt-ltb, le-ltb}
 use Rattle.text.specs.Texts.{hex_digit}
 use Rattle.text.proofs.hex_digit.Goals as goal
 
--- `text::hex_digit` meets its contract: the test is the one that `hex_digit` goes by. Assumes nothing.
 pub returns-then-d-lt10 : goal.returns-then-d-lt10
 unfolding hex_digit
 returns-then-d-lt10 c = simp (lt-ltb _ _ c.if-d-lt10.true)

@@ -1,3 +1,4 @@
+-- `turns::turns` meets its contract: the turns that are left, from what those before gave, are all of them. Assumes nothing.
 use Prim.Native.Nat.{◌-◌}
 use mathlib.Core.Path.{◌≡◌, refl, sym, ap, ◌∙◌}
 use native.Mathlib.Omega.{arith}

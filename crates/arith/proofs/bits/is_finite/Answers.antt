@@ -1,3 +1,4 @@
+-- `arith::bits::is_finite` meets its contract: the two comparisons tell the infinities and NaN apart from every other number. Assumes nothing.
 use mathlib.Core.Path.{◌≡◌, refl}
 use mathlib.Core.Bool.{true, false}
 use lib.Ieee.{Float, nan, inf, fin, lt, neg, div, of_bits}
@@ -5,7 +6,6 @@ use Rattle.arith.specs.Bits.{finite}
 use Rattle.arith.proofs.Signs.{never}
 use Rattle.arith.proofs.bits.is_finite.Goals as goal
 
--- `arith::bits::is_finite` meets its contract: the two comparisons tell the infinities and NaN apart from every other number. Assumes nothing.
 not_below : (x : Float) → lt (inf true) x ≡ true → lt x (inf false) ≡ finite x
 unfolding lt finite
 not_below nan h = refl

@@ -1,3 +1,4 @@
+-- `arith::powers::raised` meets its contract: after i turns r is x^i. Assumes nothing.
 use mathlib.Core.Path.{ap, ◌∙◌}
 use native.Mathlib.Omega.{arith}
 use Rattle.arith.specs.Power.{raised}

@@ -1,7 +1,7 @@
+-- `check_values::decimals::power_of` is safe and ends: the steps count up to 9. Assumes nothing.
 use Rattle.std.proofs.Common.{◌-◌, ◌≤◌}
 use Rattle.check_values.proofs.decimals.power_of.Given as goal
 
--- `check_values::decimals::power_of` is safe and ends: the steps count up to 9. Assumes nothing.
 abbrev pub invariant-loop-steps : goal.invariant-loop-steps
 invariant-loop-steps l = l.steps ≤ 9
 

@@ -1,5 +1,7 @@
 -- `ledger::sound::is_sound` meets its contract: the pointer, the counts and the rows, in that order. Assumes nothing.
 use mathlib.Core.Path.{sym, ◌∙◌}
+use Prim.Native.Nat.{◌≤◌}
+use native.Mathlib.Omega.{arith}
 use borrow.Author.Tests.{lt-leb, le-leb}
 use Rattle.ledger.specs.Rows.{sound}
 use Rattle.ledger.proofs.sound.is_sound.Goals as goal
@@ -10,11 +12,15 @@ returns-then-d-gt31 c = rw (lt-leb _ 31 c.if-d-gt31.true)
 
 pub returns-then-not-counts_right : goal.returns-then-not-counts_right
 unfolding sound
-returns-then-not-counts_right c = rw (le-leb _ _ c.if-d-gt31.false, sym c.counts_right.ensures ∙ c.if-not-counts_right.true)
+returns-then-not-counts_right c =
+    let within : c.args.d.pointer ≤ 31 = omega arith in
+    rw (le-leb _ _ within, sym c.counts_right.ensures ∙ c.if-not-counts_right.true)
 
 pub rows_right-requires : goal.rows_right-requires
 rows_right-requires c = sym c.counts_right.ensures ∙ c.if-not-counts_right.false
 
 pub returns : goal.returns
 unfolding sound
-returns c = rw (le-leb _ _ c.if-d-gt31.false, sym c.counts_right.ensures ∙ c.if-not-counts_right.false) c.rows_right.ensures
+returns c =
+    let within : c.args.d.pointer ≤ 31 = omega arith in
+    rw (le-leb _ _ within, sym c.counts_right.ensures ∙ c.if-not-counts_right.false) c.rows_right.ensures

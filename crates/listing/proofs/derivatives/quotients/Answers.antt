@@ -1,3 +1,5 @@
+-- `listing::derivatives::quotients` meets its contract: nothing for a refused sheet or where there is no such row, and else the row's lines.
+-- Assumes nothing.
 use Prim.Native.Nat.{ℕ, ◌+◌}
 use mathlib.Core.Path.{◌≡◌, sym, ap, ◌∙◌}
 use mathlib.Core.Bool.{Bool, true, false, cond}
@@ -14,8 +16,6 @@ use Rattle.row_lines.specs.Lines.{quotient_lines}
 use Rattle.listing.specs.Listings.{quotients_row}
 use Rattle.listing.proofs.derivatives.quotients.Goals as goal
 
--- `listing::derivatives::quotients` meets its contract: nothing for a refused sheet or where there is no such row, and else the row's lines.
--- Assumes nothing.
 -- and whether there is such a row
 shown : (s : List ℕ) (r : Reading) (count start k : ℕ) (b : Bool) → r ≡ Rows count start → ltb k count ≡ b
     → cond b (quotient_lines (k + 1) (row_of s start k) (take start s)) [] ≡ quotients_row s r k

@@ -1,9 +1,9 @@
+-- `listing::derivatives::quotients_head` meets its contract, case by case. Assumes nothing.
 use mathlib.Core.Path.{refl, sym, ap}
 use Rattle.text.proofs.Pieces.{said, reads}
 use Rattle.listing.specs.Listings.{quotients_head}
 use Rattle.listing.proofs.derivatives.quotients_head.Goals as goal
 
--- `listing::derivatives::quotients_head` meets its contract, case by case. Assumes nothing.
 pub returns-in-Refused : goal.returns-in-Refused
 unfolding quotients_head
 returns-in-Refused c =

@@ -1,9 +1,9 @@
+-- `listing::lines::header` meets its contract, case by case. Assumes nothing.
 use mathlib.Core.Path.{sym, ap}
 use Rattle.text.proofs.Pieces.{said}
 use Rattle.listing.specs.Listings.{header_of}
 use Rattle.listing.proofs.lines.header.Goals as goal
 
--- `listing::lines::header` meets its contract, case by case. Assumes nothing.
 pub returns-in-Regions : goal.returns-in-Regions
 unfolding header_of
 returns-in-Regions c =

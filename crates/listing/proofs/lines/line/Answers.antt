@@ -1,10 +1,10 @@
+-- `listing::lines::line` meets its contract, case by case. Assumes nothing.
 use mathlib.Core.Path.{sym, ap}
 use Rattle.text.proofs.Pieces.{said}
 use Rattle.listing.specs.Listings.{row_line}
 use Rattle.listing.specs.declared.Listing.{Listing}
 use Rattle.listing.proofs.lines.line.Goals as goal
 
--- `listing::lines::line` meets its contract, case by case. Assumes nothing.
 pub returns-in-Regions : goal.returns-in-Regions
 unfolding row_line
 returns-in-Regions c =

@@ -1,3 +1,5 @@
+-- `listing::lines::lines` meets its contract. The invariant: the lines of the first k rows are written. The measure is how many are left.
+-- Assumes nothing.
 use Prim.Native.Nat.{◌+◌}
 use mathlib.Core.Path.{ap}
 use native.Mathlib.Omega.{arith}

@@ -1,3 +1,4 @@
+-- `listing::listings::listed` meets its contract: the refusal's line, or header and lines one behind the other. Assumes nothing.
 use Prim.Native.Nat.{ℕ}
 use mathlib.Core.Path.{◌≡◌, refl, sym, ap, ◌∙◌}
 use mathlib.Core.List.{List, ◌++◌}
@@ -11,7 +12,6 @@ use Rattle.listing.specs.Listings.{opened_of, header_of, line_at, listed_of}
 use Rattle.listing.specs.declared.Listing.{Listing}
 use Rattle.listing.proofs.listings.listed.Goals as goal
 
--- `listing::listings::listed` meets its contract: the refusal's line, or header and lines one behind the other. Assumes nothing.
 -- what is said of a sheet, by the number, count and start that were found
 refusal : (l : Listing) (s : List ℕ) (r : Reading) {n : ℕ} → n ≡ number_of r → (n ≡ 0 → ⊥) → refused_line n ≡ listed_of l s r
 unfolding listed_of

@@ -1,9 +1,9 @@
+-- `listing::opening::note` meets its contract: what is shorter than the note is all note. Assumes nothing.
 use mathlib.Core.Path.{sym}
 use native.Mathlib.Omega.{arith}
 use lib.Seq.{length-take-le, take_all}
 use Rattle.listing.proofs.opening.note.Goals as goal
 
--- `listing::opening::note` meets its contract: what is shorter than the note is all note. Assumes nothing.
 pub slice_bounds-result-end : goal.slice_bounds-result-end
 slice_bounds-result-end c = sym (length-take-le _ _ (omega arith))
 

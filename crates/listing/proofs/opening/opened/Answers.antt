@@ -1,3 +1,4 @@
+-- `listing::opening::opened` meets its contract: by the test on the length. Assumes nothing.
 use mathlib.Core.Path.{◌≡◌, refl}
 use mathlib.Core.Bool.{true, false}
 use lib.Dec.{ltb}
@@ -6,7 +7,6 @@ use borrow.Author.Tests.{lt-ltb, le-ltb}
 use Rattle.listing.specs.Listings.{longest, opened_of}
 use Rattle.listing.proofs.opening.opened.Goals as goal
 
--- `listing::opening::opened` meets its contract: by the test on the length. Assumes nothing.
 pub returns-then-sheet-gt-LONGEST : goal.returns-then-sheet-gt-LONGEST
 unfolding opened_of
 returns-then-sheet-gt-LONGEST c =

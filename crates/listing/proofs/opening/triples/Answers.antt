@@ -1,3 +1,4 @@
+-- `listing::opening::triples` meets its contract: the reader's word first, then the test on the note's length. Assumes nothing.
 use Prim.Native.Nat.{ℕ, ◌%◌}
 use mathlib.Core.Path.{◌≡◌, sym, ap, ◌∙◌}
 use mathlib.Core.Bool.{Bool, true, false, cond}
@@ -8,7 +9,6 @@ use Rattle.sheet.specs.declared.reader.Reading.TheVariants.{Rows, Refused}
 use Rattle.listing.specs.Listings.{in_triples}
 use Rattle.listing.proofs.opening.triples.Goals as goal
 
--- `listing::opening::triples` meets its contract: the reader's word first, then the test on the note's length. Assumes nothing.
 -- and whether the note is triples
 judged : (r : Reading) (count start : ℕ) (b : Bool) → r ≡ Rows count start → eqb (start % 3) 0 ≡ b → cond b (Rows count start) (Refused 23) ≡ in_triples r
 unfolding in_triples

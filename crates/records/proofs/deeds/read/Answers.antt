@@ -1,6 +1,8 @@
 -- `records::deeds::read` meets its contract: its tests are the definition's own. Assumes nothing.
 use mathlib.Core.Path.{◌≡◌, refl, sym, ◌∙◌}
 use mathlib.Core.Bool.{false}
+use Prim.Native.Nat.{◌≤◌}
+use native.Mathlib.Omega.{arith}
 use lib.Dec.{leb}
 use lib.ListN.{length}
 use borrow.Author.Tests.{eq-eqb, ne_eqb, le-leb, lt-leb}
@@ -17,18 +19,21 @@ returns-then-rest-lt48 c =
 pub returns-then-rows_known : goal.returns-then-rows_known
 unfolding deed_of
 returns-then-rows_known c =
+    let whole : 48 ≤ length c.args.rest.now = omega arith in
     let six = eq-eqb _ _ (sym c.word-op.ensures ∙ c.if-op-eq6.true) in
-    simp (le-leb _ _ c.if-rest-lt48.false, six, sym c.rows_known.ensures ∙ c.if-rows_known.true)
+    simp (le-leb _ _ whole, six, sym c.rows_known.ensures ∙ c.if-rows_known.true)
 
 pub returns-then-op-eq6 : goal.returns-then-op-eq6
 unfolding deed_of
 returns-then-op-eq6 c =
+    let whole : 48 ≤ length c.args.rest.now = omega arith in
     let six = eq-eqb _ _ (sym c.word-op.ensures ∙ c.if-op-eq6.true) in
-    simp (le-leb _ _ c.if-rest-lt48.false, six, sym c.rows_known.ensures ∙ c.if-rows_known.false)
+    simp (le-leb _ _ whole, six, sym c.rows_known.ensures ∙ c.if-rows_known.false)
 
 pub returns : goal.returns
 unfolding deed_of
 returns c =
+    let whole : 48 ≤ length c.args.rest.now = omega arith in
     let number : c.word-5.result ≡ word_of c.args.rest.now 5 = c.word-5.ensures in
-    simp (le-leb _ _ c.if-rest-lt48.false, ne_eqb _ _ (λ e. c.if-op-eq6.false (c.word-op.ensures ∙ e)))
+    simp (le-leb _ _ whole, ne_eqb _ _ (λ e. c.if-op-eq6.false (c.word-op.ensures ∙ e)))
     (cc)

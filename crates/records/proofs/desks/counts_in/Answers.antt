@@ -1,3 +1,4 @@
+-- `records::desks::counts_in` meets its contract: the counts passed are filled in. Assumes nothing.
 use mathlib.Core.Path.{refl}
 use native.Mathlib.Omega.{arith}
 use Rattle.records.specs.Records.{count_in}

@@ -1,3 +1,4 @@
+-- `records::desks::rows_in` meets its contract: the rows passed are filled in. Assumes nothing.
 use mathlib.Core.Path.{refl}
 use native.Mathlib.Omega.{arith}
 use Rattle.records.specs.Records.{row_in}

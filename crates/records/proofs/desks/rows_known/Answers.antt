@@ -1,5 +1,7 @@
+-- `records::desks::rows_known` meets its contract: each row passed says 1 or 0, and the first that does not settles it. Assumes nothing.
 use mathlib.Core.Bool.{true}
 use mathlib.Core.Path.{◌≡◌, refl, sym, ap, ◌∙◌}
+use Prim.Native.Nat.{◌≤◌}
 use native.Mathlib.Omega.{arith}
 use borrow.Author.Rules.{rules}
 use borrow.Author.Tests.{le-leb, lt-leb}
@@ -22,6 +24,7 @@ pub returns-then-word-gt1 : goal.returns-then-word-gt1
 unfolding rows_known
 returns-then-word-gt1 c =
     let rest = c.args.rest.now in
+    let few : c.word.result ≤ 1 = omega arith in
     let read = c.word.ensures ∙ ap (word_of rest) c.row_start.ensures in
     let two = lt-leb (word_of rest (row_start c.loop-i.i)) 1 (rw (sym read) c.if-word-gt1.true) in
     let no = upto_fails (λ k. leb (word_of rest (row_start k)) 1) 32 c.loop-i.i c.loop-i-test.true two in
@@ -30,10 +33,11 @@ returns-then-word-gt1 c =
 pub loop-i-preserved : goal.loop-i-preserved
 loop-i-preserved c =
     let rest = c.args.rest.now in
+    let few : c.word.result ≤ 1 = omega arith in
     let read = c.word.ensures ∙ ap (word_of rest) c.row_start.ensures in (
       omega arith,
       upto_more (λ k. leb (word_of rest (row_start k)) 1) c.loop-i.i c.loop-i.invariant.1
-          (le-leb (word_of rest (row_start c.loop-i.i)) 1 (rw (sym read) c.if-word-gt1.false)),
+          (le-leb (word_of rest (row_start c.loop-i.i)) 1 (rw (sym read) few)),
     )
 
 pub returns : goal.returns

@@ -1,10 +1,10 @@
+-- `row_lines::columns::asked` meets its contract: the query at the values of the row's bits. Assumes nothing.
 use mathlib.Core.Path.{ap, ◌∙◌}
 use lib.Ieee.{Float}
 use Rattle.arith.specs.Bits.{float_of}
 use Rattle.sums.specs.Queries.{answer_of}
 use Rattle.row_lines.proofs.columns.asked.Goals as goal
 
--- `row_lines::columns::asked` meets its contract: the query at the values of the row's bits. Assumes nothing.
 pub returns : goal.returns
 returns c =
     let row = c.args.row in

@@ -1,3 +1,4 @@
+-- `row_lines::columns::values` meets its contract: a loop of eight columns, and the ninth. Assumes nothing.
 use mathlib.Core.List.{[], ◌∷◌, ◌++◌}
 use Rattle.text.specs.Texts.{column_of, blank, newline}
 use Rattle.text.specs.declared.Cell.{Cell}
@@ -13,7 +14,6 @@ use Rattle.row_lines.specs.Lines.{value_column, value_columns}
 use Rattle.text.proofs.Joined.{begun, turned, ended}
 use Rattle.row_lines.proofs.columns.values.Goals as goal
 
--- `row_lines::columns::values` meets its contract: a loop of eight columns, and the ninth. Assumes nothing.
 -- the column of a value that is read
 written : (end : ℕ) (x : Cell) (u v : Value) → x ≡ cell_of u → u ≡ v → column_of x ++ end ∷ [] ≡ column_of (cell_of v) ++ end ∷ []
 written end x u v e q = ap (λ (y : Cell). column_of y ++ end ∷ []) (e ∙ ap cell_of q)

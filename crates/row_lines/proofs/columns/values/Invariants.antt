@@ -1,3 +1,4 @@
+-- `row_lines::columns::values` meets its contract: a loop of eight columns, and the ninth. Assumes nothing.
 use Rattle.text.specs.Texts.{joined, blank}
 use Prim.Native.Nat.{◌-◌, ◌≤◌}
 use Rattle.text.specs.Room.{Written}

@@ -1,3 +1,4 @@
+-- `row_lines::columns::verdict` meets its contract: four columns, one behind the other. Assumes nothing.
 use Prim.Native.Nat.{ℕ}
 use mathlib.Core.Path.{ap}
 use Rattle.text.proofs.Pieces.{then, said}
@@ -5,7 +6,6 @@ use Rattle.text.specs.Texts.{blank, number_column}
 use Rattle.row_lines.specs.Lines.{verdict_of}
 use Rattle.row_lines.proofs.columns.verdict.Goals as goal
 
--- `row_lines::columns::verdict` meets its contract: four columns, one behind the other. Assumes nothing.
 pub returns : goal.returns
 unfolding verdict_of
 returns c =

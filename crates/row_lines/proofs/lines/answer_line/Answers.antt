@@ -1,3 +1,4 @@
+-- `row_lines::lines::answer_line` meets its contract: verdict, mark and values on the row's query, one behind the other. Assumes nothing.
 use Prim.Native.Nat.{ℕ}
 use mathlib.Core.Path.{ap}
 use mathlib.Core.List.{[], ◌∷◌, ◌++◌}
@@ -8,7 +9,6 @@ use Rattle.text.specs.Texts.{blank}
 use Rattle.row_lines.specs.Lines.{verdict_of, mark_byte, value_columns, answer_line}
 use Rattle.row_lines.proofs.lines.answer_line.Goals as goal
 
--- `row_lines::lines::answer_line` meets its contract: verdict, mark and values on the row's query, one behind the other. Assumes nothing.
 pub returns : goal.returns
 unfolding answer_line
 returns c =

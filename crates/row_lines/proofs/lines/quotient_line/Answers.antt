@@ -1,3 +1,4 @@
+-- `row_lines::lines::quotient_line` meets its contract: six columns, one behind the other. Assumes nothing.
 use Prim.Native.Nat.{ℕ}
 use mathlib.Core.Path.{◌≡◌, ap, ◌∙◌}
 use mathlib.Core.List.{List, [], ◌∷◌, ◌++◌}
@@ -12,7 +13,6 @@ use Rattle.cells.specs.Cells.{cell_of}
 use Rattle.row_lines.specs.Lines.{quotient_line}
 use Rattle.row_lines.proofs.lines.quotient_line.Goals as goal
 
--- `row_lines::lines::quotient_line` meets its contract: six columns, one behind the other. Assumes nothing.
 -- the line of a derivative
 abbrev columns : ℕ → ℕ → ℕ → ℕ → Derivative → List ℕ
 columns number z x y q =

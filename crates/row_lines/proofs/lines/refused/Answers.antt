@@ -1,8 +1,8 @@
+-- `row_lines::lines::refused` meets its contract: a word and a number, one behind the other. Assumes nothing.
 use Rattle.text.proofs.Pieces.{then}
 use Rattle.row_lines.specs.Lines.{refused_line}
 use Rattle.row_lines.proofs.lines.refused.Goals as goal
 
--- `row_lines::lines::refused` meets its contract: a word and a number, one behind the other. Assumes nothing.
 pub returns : goal.returns
 unfolding refused_line
 returns c =

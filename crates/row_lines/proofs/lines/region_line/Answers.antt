@@ -1,3 +1,4 @@
+-- `row_lines::lines::region_line` meets its contract: the verdict on the row's query. Assumes nothing.
 use mathlib.Core.Path.{ap}
 use Rattle.text.proofs.Pieces.{said}
 use Rattle.reply.specs.declared.Answer.{Answer}
@@ -5,7 +6,6 @@ use Rattle.text.specs.Texts.{newline}
 use Rattle.row_lines.specs.Lines.{verdict_of}
 use Rattle.row_lines.proofs.lines.region_line.Goals as goal
 
--- `row_lines::lines::region_line` meets its contract: the verdict on the row's query. Assumes nothing.
 pub returns : goal.returns
 returns c =
     let a = c.args in

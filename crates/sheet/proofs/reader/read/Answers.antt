@@ -1,3 +1,4 @@
+-- `sheet::reader::read` meets its contract: what the trailer gave, and the kinds of the rows that it names. Assumes nothing.
 use mathlib.Core.Path.{◌≡◌, sym, ap, ◌∙◌}
 use mathlib.Core.Bool.{Bool, true, false}
 use mathlib.Core.List.{List}
@@ -10,7 +11,6 @@ use Rattle.sheet.specs.Read.{rows_of}
 use Rattle.sheet.proofs.ReadLaws.{trailer_fits, read_refused, read_rows}
 use Rattle.sheet.proofs.reader.read.Goals as goal
 
--- `sheet::reader::read` meets its contract: what the trailer gave, and the kinds of the rows that it names. Assumes nothing.
 -- the part that is lent is the rows
 rows_kinds : (s : List ℕ) (n first : ℕ) (t b : Bool) → t ≡ kinds_known n (take (first + 24 * n - first) (drop first s)) → t ≡ b → kinds_known n (rows_of s n first) ≡ b
 rows_kinds s n first t b e q = ap (λ (k : ℕ). kinds_known n (take k (drop first s))) (sym (add-sub_cancel_left first (24 * n))) ∙ sym e ∙ q

@@ -1,9 +1,9 @@
+-- `sheet::reader::trailer` meets its contract: the four words are read where the definition reads them, and judged. Assumes nothing.
 use mathlib.Core.Path.{refl}
 use borrow.Author.Tests.{lt-ltb, le-ltb}
 use Rattle.sheet.specs.Read.{trailer_of}
 use Rattle.sheet.proofs.reader.trailer.Goals as goal
 
--- `sheet::reader::trailer` meets its contract: the four words are read where the definition reads them, and judged. Assumes nothing.
 pub returns-then-s-lt16 : goal.returns-then-s-lt16
 unfolding trailer_of
 returns-then-s-lt16 c = simp (lt-ltb _ _ c.if-s-lt16.true)

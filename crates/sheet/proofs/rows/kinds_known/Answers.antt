@@ -1,3 +1,4 @@
+-- `sheet::rows::kinds_known` meets its contract. The invariant: the rows passed have known kinds, so they start in the slice. The measure is how many are left. Assumes nothing.
 use Prim.Native.Nat.{ℕ}
 use mathlib.Core.Path.{refl, sym, ap, ◌∙◌}
 use native.Mathlib.Nat.{le_antisymm}

@@ -1,3 +1,4 @@
+-- `sheet::rows::row` meets its contract: the tests say whether the definition's own test holds, and a row that is held is read word by word. Assumes nothing.
 use mathlib.Core.Path.{refl}
 use borrow.Author.Tests.{lt-ltb, le-ltb}
 use Prim.Native.Nat.{◌-◌, ◌/◌}
@@ -6,7 +7,6 @@ use lib.ListN.{length}
 use Rattle.sheet.specs.Rows.{row_of}
 use Rattle.sheet.proofs.rows.row.Goals as goal
 
--- `sheet::rows::row` meets its contract: the tests say whether the definition's own test holds, and a row that is held is read word by word. Assumes nothing.
 pub returns-then-k-s : goal.returns-then-k-s
 unfolding row_of
 returns-then-k-s c =

@@ -1,7 +1,7 @@
+-- `sheet_writer::Writing::number` meets its contract, case by case. Assumes nothing.
 use mathlib.Core.Path.{refl}
 use Rattle.sheet_writer.proofs.Writing.number.Goals as goal
 
--- `sheet_writer::Writing::number` meets its contract, case by case. Assumes nothing.
 pub returns-in-Length : goal.returns-in-Length
 returns-in-Length c = rw c.in-Length.is refl
 

@@ -1,3 +1,4 @@
+-- `terms::row::scaled` meets its contract: the factors still to come, put to the product so far, give the whole product. Assumes nothing.
 use Prim.Native.Nat.{◌-◌}
 use mathlib.Core.Path.{◌≡◌, ap, ◌∙◌}
 use native.Mathlib.Omega.{arith}

@@ -1,3 +1,4 @@
+-- `terms::walk::group` meets its contract: at row l, the six sums of what is left, begun at r, are those of the rows from k on, begun at s. Assumes nothing.
 use Prim.Native.Nat.{ℕ, ◌<◌, ◌≤◌}
 use mathlib.Core.List.{List}
 use lib.IntN.{ℤ}

@@ -1,3 +1,4 @@
+-- `terms::walk::six_sums` meets its contract: after k rows, the six sums of what is left, begun at s, are the whole sums. Assumes nothing.
 use Prim.Native.Nat.{◌<◌}
 use mathlib.Core.Path.{refl, ◌∙◌}
 use native.Mathlib.Omega.{arith}

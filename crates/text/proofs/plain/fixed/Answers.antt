@@ -1,3 +1,5 @@
+-- `text::plain::fixed` meets its contract: x is read from its own bits, whose fields are its sign and its size, and the text is the sign and the pointed
+-- number one behind the other; what is not modest is left to `column`. Assumes nothing.
 use mathlib.Core.Path.{◌≡◌, sym, ap, ◌∙◌, subst}
 use mathlib.Core.Bool.{Bool, true, false, not, true≢false, cond}
 use mathlib.Core.List.{List, [], ◌∷◌, ◌++◌, append_assoc}
@@ -13,8 +15,6 @@ use Rattle.text.proofs.Rounding.{bits_bound, bits_sign}
 use Rattle.text.proofs.Pieces.{then, said}
 use Rattle.text.proofs.plain.fixed.Goals as goal
 
--- `text::plain::fixed` meets its contract: x is read from its own bits, whose fields are its sign and its size, and the text is the sign and the pointed
--- number one behind the other; what is not modest is left to `column`. Assumes nothing.
 -- an f64 is read from its own bits
 own : (x : Float) → fits binary64 x ≡ true → of_bits binary64 (to_bits binary64 x) ≡ x
 own x h = of_bits-to_bits binary64 x (subst T (sym h) tt)

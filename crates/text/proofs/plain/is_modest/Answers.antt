@@ -1,3 +1,4 @@
+-- `text::plain::is_modest` meets its contract: of the two comparisons one holds by the sign, and the other is the definition's. Assumes nothing.
 use mathlib.Core.Path.{◌≡◌, refl, sym, ap, ◌∙◌}
 use mathlib.Core.Bool.{true, false, true≢false}
 use Prim.Native.Nat.{ℕ, ◌+◌, ◌*◌, ◌^◌}
@@ -11,7 +12,6 @@ use borrow.Author.Tests.{lt-ltb}
 use Rattle.text.specs.Decimals.{modest}
 use Rattle.text.proofs.plain.is_modest.Goals as goal
 
--- `text::plain::is_modest` meets its contract: of the two comparisons one holds by the sign, and the other is the definition's. Assumes nothing.
 -- m · 2^e against 2^53, as `lt` writes it
 plainly : (m : ℕ) (e : ℤ) → ltb (m * up e * 1) (1 * 2 ^ 53 * down e) ≡ ltb (m * up e) (2 ^ 53 * down e)
 plainly m e = ap (λ (z : ℕ). ltb z (2 ^ 53 * down e)) (mul-one (m * up e))

@@ -1,3 +1,6 @@
+-- `text::plain::last_digits` meets its contract. The invariant: the digits left to be written, with what stands behind them, are the last three and the
+-- byte behind them (`digits_next` moves one digit over). At the end none is left, and the last k stand from 3 - k on. The measure is how many are left.
+-- Assumes nothing.
 use Prim.Native.Nat.{ℕ, ◌+◌, ◌-◌, ◌≤◌}
 use mathlib.Core.Path.{◌≡◌, refl, ap, ◌∙◌}
 use mathlib.Core.List.{[], ◌∷◌, ◌++◌}

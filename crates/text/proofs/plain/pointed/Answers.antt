@@ -1,3 +1,4 @@
+-- `text::plain::pointed` meets its contract: the whole part and the point, and behind them the last k digits. Assumes nothing.
 use mathlib.Core.Path.{◌≡◌, refl, sym, ap, ◌∙◌, subst}
 use mathlib.Core.List.{[], ◌∷◌, ◌++◌, append_assoc}
 use Prim.Native.Nat.{ℕ, zero, suc, ◌/◌, ◌^◌, ◌<◌}
@@ -8,7 +9,6 @@ use Rattle.text.specs.Decimals.{digits_from, pointed_of}
 use Rattle.text.proofs.Pieces.{then, said}
 use Rattle.text.proofs.plain.pointed.Goals as goal
 
--- `text::plain::pointed` meets its contract: the whole part and the point, and behind them the last k digits. Assumes nothing.
 no-point : (k n end : ℕ) → k ≡ 0 → decimal_of n ++ end ∷ [] ≡ pointed_of k n ++ end ∷ []
 unfolding pointed_of
 no-point k n end e = ap (λ (i : ℕ). pointed_of i n ++ end ∷ []) (sym e)

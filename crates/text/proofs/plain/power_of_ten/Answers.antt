@@ -1,9 +1,9 @@
+-- `text::plain::power_of_ten` meets its contract, case by case. Assumes nothing.
 use mathlib.Core.Path.{◌≡◌, sym, ap}
 use Prim.Native.Nat.{ℕ, ◌^◌}
 use native.Mathlib.Omega.{arith}
 use Rattle.text.proofs.plain.power_of_ten.Goals as goal
 
--- `text::plain::power_of_ten` meets its contract, case by case. Assumes nothing.
 pub returns-in-0 : goal.returns-in-0
 returns-in-0 c = let e : c.args.k ≡ 0 = omega arith in ap (λ (k : ℕ). 10 ^ k) (sym e)
 

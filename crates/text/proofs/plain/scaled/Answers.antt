@@ -1,3 +1,5 @@
+-- `text::plain::scaled` meets its contract: the bits' fields give x as digits / unit (`bits_high`), or so small that 0 is nearest (`bits_low`).
+-- Assumes nothing.
 use mathlib.Core.Path.{◌≡◌, sym, ap, ◌∙◌, subst}
 use Prim.Native.Nat.{ℕ, ◌+◌, ◌-◌, ◌*◌, ◌/◌, ◌%◌, ◌^◌, ◌≤◌, ◌<◌}
 use native.Mathlib.Nat.{mul-le-mul_left}
@@ -7,8 +9,6 @@ use Rattle.text.specs.Decimals.{nearest_of}
 use Rattle.text.proofs.Rounding.{halved, bits_high, bits_low, shifted}
 use Rattle.text.proofs.plain.scaled.Goals as goal
 
--- `text::plain::scaled` meets its contract: the bits' fields give x as digits / unit (`bits_high`), or so small that 0 is nearest (`bits_low`).
--- Assumes nothing.
 -- what the code works out, with the shift as the machine has it
 worked : (d s j : ℕ) → j < 64 → (d * s + (1 * 2 ^ j) % 2 ^ 64 / 2) / ((1 * 2 ^ j) % 2 ^ 64) ≡ nearest_of (d * s) (2 ^ j)
 worked d s j h = ap (λ (u : ℕ). (d * s + u / 2) / u) (shifted j h) ∙ halved (d * s) j

@@ -1,3 +1,4 @@
+-- `text::plain::sign` meets its contract: the test is the definition's. Assumes nothing.
 use mathlib.Core.Path.{sym, ap}
 use mathlib.Core.Bool.{Bool, cond}
 use mathlib.Core.List.{[], ◌∷◌}
@@ -5,7 +6,6 @@ use borrow.Author.Tests.{le-leb, lt-leb}
 use Rattle.text.proofs.Pieces.{none, said}
 use Rattle.text.proofs.plain.sign.Goals as goal
 
--- `text::plain::sign` meets its contract: the test is the definition's. Assumes nothing.
 pub returns-then-bits-ge9223372036854775808 : goal.returns-then-bits-ge9223372036854775808
 returns-then-bits-ge9223372036854775808 c =
     said (ap (λ (t : Bool). cond t (45 ∷ []) []) (sym (le-leb _ _ c.if-bits-ge9223372036854775808.true))) c.bytes.ensures

@@ -1,7 +1,7 @@
+-- `sheet::reader::Reading::number` meets its contract, case by case. Assumes nothing.
 use mathlib.Core.Path.{refl}
 use Rattle.sheet.proofs.reader.Reading.number.Goals as goal
 
--- `sheet::reader::Reading::number` meets its contract, case by case. Assumes nothing.
 pub returns-in-Rows : goal.returns-in-Rows
 returns-in-Rows c = rw c.in-Rows.is refl
 
