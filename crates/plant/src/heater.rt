@@ -2,11 +2,11 @@
 // directly and then, all at once, for three states (p,h): the bled steam, the drain and the water out.
 // All that reaches the heater is its own numbers and the states that it asked for: there is no desk
 // here and no other model.
-mod places;
+mod positions;
 
 use crate::model;
 use crate::model::{Asks, Known, Output};
-pub(crate) use places::Place;
+pub(crate) use positions::Place;
 
 // How many halvings settle a state that the heater asks for: rough ones will do, and come soon.
 pub(crate) const HALVINGS: u64 = 10;
@@ -108,7 +108,7 @@ fn one_less(waits_for: u64) -> u64 {
 
 // What the heater becomes when it is told of a place that it asked for; it writes its line.
 pub(crate) fn told(heater: Heater, place: Place, known: Known, room: &mut [u8]) -> Heater {
-    let n = places::title(place, room, heater.next_line);
+    let n = positions::title(place, room, heater.next_line);
     let mut after = advanced(heater, place, known);
     after.next_line = model::told(known, given(place), room, n);
     after

@@ -1,11 +1,11 @@
 // A turbine of three stages. A stage is settled by two queries: where an ideal expansion, which keeps
 // the entropy, would end, (p,s), and where the real one ends, (p,h). All that reaches the turbine is
 // its own numbers and the state that it asked for: there is no desk here and no other model.
-mod places;
+mod positions;
 
 use crate::model;
 use crate::model::{Asks, Known, Output};
-use crate::turbine::places::Place;
+use crate::turbine::positions::Place;
 use states::Single;
 
 // How many halvings settle a state that the turbine asks for: its shaft power wants fine ones.
@@ -170,7 +170,7 @@ fn counted(turbine: Turbine) -> Turbine {
 
 // Writes a line of the turbine's: the title of the place, then what is known of it.
 fn line(turbine: Turbine, place: Place, known: Known, given: Output, room: &mut [u8]) -> usize {
-    let n = places::title(place, room, turbine.next_line);
+    let n = positions::title(place, room, turbine.next_line);
     model::told(known, given, room, n)
 }
 
