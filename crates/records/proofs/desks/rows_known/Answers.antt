@@ -24,7 +24,6 @@ pub returns-then-word-gt1 : goal.returns-then-word-gt1
 unfolding rows_known
 returns-then-word-gt1 c =
     let rest = c.args.rest.now in
-    let few : c.word.result ≤ 1 = omega arith in
     let read = c.word.ensures ∙ ap (word_of rest) c.row_start.ensures in
     let two = lt-leb (word_of rest (row_start c.loop-i.i)) 1 (rw (sym read) c.if-word-gt1.true) in
     let no = upto_fails (λ k. leb (word_of rest (row_start k)) 1) 32 c.loop-i.i c.loop-i-test.true two in
