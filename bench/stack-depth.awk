@@ -1,7 +1,7 @@
 # For bench/stack: reads a list of names and then what a disassembler prints of a library for x86-64 that has them (objdump or llvm-objdump, with -d -r
 # --no-show-raw-insn). Says of each name, `__` read as `::`, how many bytes of stack lie below its call at the deepest: its return address, what it pushes, its
 # frame, what it keeps below its stack pointer (the red zone), and the same of what it calls, along the deepest path. Every path through a function is followed,
-# with the depth at each instruction. Fails if a number is above `limit`, and at what it cannot follow: another change of the stack pointer, a frame pointer, a
+# with the depth at each instruction. Fails if a number is above `limit`, or above its own where `held` names it, and at what it cannot follow: another change of the stack pointer, a frame pointer, a
 # call or a jump through a pointer, a function that is not in the library, a recursion.
 function fail(why) { print "bench/stack: " why > "/dev/stderr"; failed = 1; exit 1 }
 
@@ -125,12 +125,14 @@ function depth_of(f,    i, most, own, arms) {
 
 END {
     if (failed) { exit 1 }
+    for (k = split(held, each, " "); k > 1; k -= 2) { own_limit[each[k - 1]] = each[k] }
     for (k = 1; k <= names; k++) {
         if (!(asked[k] in first)) { fail(asked[k] " is not in the library") }
         name = asked[k]; gsub(/__/, "::", name)
         printf "%5d %s\n", depth_of(asked[k]), name
-        if (known[asked[k]] > limit) { above[++many] = name }
+        most = (asked[k] in own_limit) ? own_limit[asked[k]] : limit
+        if (known[asked[k]] > most) { above[++many] = most " bytes: " name }
     }
-    for (k = 1; k <= many; k++) { print "above its limit of " limit " bytes: " above[k] }
+    for (k = 1; k <= many; k++) { print "above its limit of " above[k] }
     exit many > 0
 }
