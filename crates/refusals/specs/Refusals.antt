@@ -1,0 +1,31 @@
+-- The table of refusal numbers, and the number that an answer carries. Definitions only.
+use Rattle.std.specs.Prelude.{ℕ, Result, Ok, Err}
+use Rattle.refusals.specs.declared.Refusal.{Refusal}
+
+-- the table
+abbrev pub number_of : Refusal → ℕ
+number_of Refusal.NotFinite = 1
+number_of Refusal.Pressure = 2
+number_of Refusal.Temperature = 3
+number_of Refusal.AboveRegion5 = 4
+number_of Refusal.Region3 = 5
+number_of Refusal.EnthalpyOrEntropy = 6
+number_of Refusal.NoRegion = 7
+number_of Refusal.NoDerivative = 8
+number_of Refusal.UnknownNumber = 9
+number_of Refusal.FourOpen = 10
+number_of Refusal.NotOpen = 11
+number_of Refusal.NotReady = 12
+number_of Refusal.TicketsSpent = 13
+number_of Refusal.UnsoundDesk = 15
+number_of Refusal.ShortSheet = 20
+number_of Refusal.Version = 21
+number_of Refusal.RowCount = 22
+number_of Refusal.Layout = 23
+number_of Refusal.RowKind = 24
+number_of Refusal.ShortRoom = 25
+
+-- the number of an answer's refusal, 0 where nothing is refused
+abbrev pub number_in : {T : Type 0} → Result T Refusal → ℕ
+number_in (Ok x) = 0
+number_in (Err refusal) = number_of refusal
