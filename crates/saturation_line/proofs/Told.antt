@@ -12,14 +12,15 @@ use Rattle.saturation_line.specs.Printed.{equation28}
 use Rattle.saturation_line.specs.Pressure.{t273, t623, t647, up_to623, above623, ps_of}
 use Rattle.saturation_line.specs.Answers.{number_of, place_of, values_of}
 use Rattle.saturation_line.specs.declared.SaturationPressure.{SaturationPressure}
-use Rattle.saturation_line.specs.declared.SaturationPressure.TheVariants.{UpTo623, Above623, Nowhere}
+use Rattle.saturation_line.specs.declared.SaturationPressure.TheVariants.{UpTo623, Above623}
+use Rattle.std.specs.Prelude.{Option, Some, None}
 
 -- from 273.15 to 647.096 K, where 02 asks for an answer
 abbrev pub on_line : Float → Bool
 on_line t = le t273 t && le t t647
 
 -- NaN and the infinities have no saturation pressure
-pub not_finite_nowhere : (t : Float) → finite t ≡ false → ps_of t ≡ Nowhere
+pub not_finite_nowhere : (t : Float) → finite t ≡ false → ps_of t ≡ None
 unfolding finite ps_of lt eq le printed round
 not_finite_nowhere nan h = refl
 not_finite_nowhere (inf true) h = refl
@@ -66,8 +67,8 @@ exhaustive t = go (le t273 t) (le t t623) refl refl
 -- ---- the cases
 
 -- what the two tests and Eq. (28) make
-abbrev chosen : Bool → Bool → Float → SaturationPressure
-chosen b w p = cond b (UpTo623 p) (cond w (Above623 p) Nowhere)
+abbrev chosen : Bool → Bool → Float → Option SaturationPressure
+chosen b w p = cond b (Some (UpTo623 p)) (cond w (Some (Above623 p)) None)
 
 place_1 : (b w : Bool) (p : Float) → eqb (place_of (chosen b w p)) 1 ≡ b
 place_1 true w p = refl

@@ -9,12 +9,11 @@ mod printed;
 pub use pressure::ps;
 pub use printed::ts;
 
-// The saturation pressure in MPa at a T, told apart by T alone: from 273.15 up to 623.15 K, where the line
-// parts regions 1 and 2; above that, up to the critical 647.096 K, where it goes on into region 3; and
-// none at any other T.
+// The saturation pressure in MPa at a T of the line, told apart by T alone: from 273.15 up to 623.15 K,
+// where the line parts regions 1 and 2; above that, up to the critical 647.096 K, where it goes on into
+// region 3. At any other T there is none, and whoever asks has `None` to deal with.
 #[derive(Clone, Copy)]
 pub enum SaturationPressure {
     UpTo623(f64),
     Above623(f64),
-    Nowhere,
 }

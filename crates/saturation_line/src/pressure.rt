@@ -27,15 +27,15 @@ fn above_623(t: f64) -> bool
     T623 < t && t <= T647
 }
 
-// The saturation pressure at T in K, by where T stands.
-pub fn ps(t: f64) -> SaturationPressure
+// The saturation pressure at T in K, by where T stands; off the line there is none.
+pub fn ps(t: f64) -> Option<SaturationPressure>
     ensures { result ≡ ps_of t }
 {
     if up_to_623(t) {
-        return SaturationPressure::UpTo623(equation_28(t));
+        return Some(SaturationPressure::UpTo623(equation_28(t)));
     }
     if above_623(t) {
-        return SaturationPressure::Above623(equation_28(t));
+        return Some(SaturationPressure::Above623(equation_28(t)));
     }
-    SaturationPressure::Nowhere
+    None
 }
