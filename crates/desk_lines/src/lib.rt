@@ -12,10 +12,8 @@ fn counts(d: Desk, out: &mut [u8], at: usize) -> usize
     ensures { Written out.old at (count_columns d) out.new result }
 {
     let mut p = at;
-    let mut c = 0;
-    while c < 7 {
+    for c in 0..7 {
         p = text::decimal(d.counts[c], b' ', out, p);
-        c += 1;
     }
     text::decimal(d.counts[7], b'\n', out, p)
 }
@@ -57,11 +55,8 @@ pub fn shown(number: u64, d: Desk, out: &mut [u8]) -> usize
     ensures { Written out.old 0 (shown_lines number d) out.new result }
 {
     let mut p = desk_line(number, d, out);
-    let mut i = 0;
-    while i < 32 {
-        let r = d.rows[i];
-        p = row_line(i as u64, r, out, p);
-        i += 1;
+    for (i, r) in d.rows.iter().enumerate() {
+        p = row_line(i as u64, *r, out, p);
     }
     p
 }

@@ -113,11 +113,9 @@ fn worked(operation: u8, x: f64) -> f64 {
 fn run(operation: u8, n: usize) -> f64 {
     let mut x = 0.0371;
     let mut sum = 0.0;
-    let mut k = 0usize;
-    while k < n {
+    for _ in 0..n {
         sum = sum + worked(operation, x);
         x = x * 1.05;
-        k += 1;
     }
     sum
 }
@@ -141,11 +139,9 @@ fn beyond_worked(operation: u8, x: f64) -> f64 {
 fn run_beyond(operation: u8, n: usize) -> f64 {
     let mut x = 0.0371;
     let mut sum = 0.0;
-    let mut k = 0usize;
-    while k < n {
+    for _ in 0..n {
         sum = sum + beyond_worked(operation, x);
         x = x * 1.05;
-        k += 1;
     }
     sum
 }
@@ -154,13 +150,11 @@ fn run_beyond(operation: u8, n: usize) -> f64 {
 fn desk_of(jobs: u64) -> Desk {
     let mut d = desk::new_desk();
     let mut y = 100.0;
-    let mut k = 0u64;
-    while k < jobs {
+    for k in 0..jobs {
         let o = desk::post(d, k % 8, 2, 1.0, y, 40);
         let e = o.desk;
         d = e;
         y = y + 10.0;
-        k += 1;
     }
     d
 }
@@ -198,12 +192,10 @@ fn run_desk(operation: u8, n: usize) -> f64 {
     if operation == b'U' {
         d.pointer = 32;
     }
-    let mut k = 0usize;
-    while k < n {
+    for k in 0..n {
         let o = called(operation, d, k);
         let e = o.desk;
         d = e;
-        k += 1;
     }
     shown(d)
 }
@@ -211,13 +203,11 @@ fn run_desk(operation: u8, n: usize) -> f64 {
 // Five withdraws, one behind the other.
 fn five_withdraws(first: Desk, k: usize) -> f64 {
     let mut d = first;
-    let mut j = 0usize;
-    while j < 5 {
+    for j in 0..5 {
         let n = ((k % 1000 + j) % 32) as u64;
         let o = desk::withdraw(d, n % 8, n / 8);
         let e = o.desk;
         d = e;
-        j += 1;
     }
     d.rows[31].hi
 }
@@ -226,10 +216,8 @@ fn five_withdraws(first: Desk, k: usize) -> f64 {
 fn run_withdraws(n: usize) -> f64 {
     let d = desk_of(32);
     let mut sum = 0.0;
-    let mut k = 0usize;
-    while k < n / 5 {
+    for k in 0..n / 5 {
         sum = sum + five_withdraws(d, 5 * (k % 200));
-        k += 1;
     }
     sum
 }
@@ -238,20 +226,11 @@ fn run_withdraws(n: usize) -> f64 {
 fn five_posts(first: Desk, start: f64) -> f64 {
     let mut d = first;
     let mut x = start;
-    let mut j = 0usize;
-    while j < 5 {
-        let o = desk::post(
-            d,
-            3 + (j % 5) as u64,
-            2,
-            x,
-            100.0 + 10.0 * x,
-            10 + (j % 5) as u64,
-        );
+    for j in 0..5 {
+        let o = desk::post(d, 3 + j, 2, x, 100.0 + 10.0 * x, 10 + j);
         let e = o.desk;
         d = e;
         x = x * 1.05;
-        j += 1;
     }
     d.rows[31].hi
 }
@@ -261,11 +240,9 @@ fn run_posts(n: usize) -> f64 {
     let d = desk_of(27);
     let mut x = 0.0371;
     let mut sum = 0.0;
-    let mut k = 0usize;
-    while k < n / 5 {
+    for _ in 0..n / 5 {
         sum = sum + five_posts(d, x);
         x = x * 1.25;
-        k += 1;
     }
     sum
 }
@@ -273,12 +250,8 @@ fn run_posts(n: usize) -> f64 {
 // A full desk of jobs that are ready.
 fn ready_desk() -> Desk {
     let mut d = desk_of(32);
-    let mut i = 0usize;
-    while i < 32 {
-        let mut r = d.rows[i];
+    for r in &mut d.rows {
         r.halvings = r.number;
-        d.rows[i] = r;
-        i += 1;
     }
     d
 }
@@ -303,15 +276,13 @@ fn handed_out(a: Answered) -> f64 {
 fn five_collects(first: Desk, k: usize) -> f64 {
     let mut d = first;
     let mut sum = 0.0;
-    let mut j = 0usize;
-    while j < 5 {
+    for j in 0..5 {
         let n = ((k % 1000 + j) % 32) as u64;
         let o = desk::collect(d, n % 8, n / 8);
         let a = o.answer;
         let e = o.desk;
         d = e;
         sum = sum + handed_out(a);
-        j += 1;
     }
     sum + d.rows[31].hi
 }
@@ -320,10 +291,8 @@ fn five_collects(first: Desk, k: usize) -> f64 {
 fn run_collects(n: usize) -> f64 {
     let d = ready_desk();
     let mut sum = 0.0;
-    let mut k = 0usize;
-    while k < n / 5 {
+    for k in 0..n / 5 {
         sum = sum + five_collects(d, 5 * (k % 200));
-        k += 1;
     }
     sum
 }
