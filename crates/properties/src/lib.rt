@@ -56,10 +56,3 @@ pub struct PressureResponse {
     pub beta: f64,
     pub cv: f64,
 }
-
-// A value that an answer may lack.
-#[derive(Clone, Copy)]
-pub enum Value {
-    Is(f64),
-    Missing,
-}

@@ -1,2 +1,1 @@
 pub mod Slopes
-pub mod Answers

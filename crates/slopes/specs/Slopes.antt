@@ -1,7 +1,7 @@
 -- Derivatives of a single-phase state, by 001: for properties z, x, y among p, T, v, u, h, s, g, f, numbered 1 to 8, (∂z/∂x) at constant y is
 -- (z_p·y_T - z_T·y_p) / (x_p·y_T - x_T·y_p) for an equation in p and T, and the same by v and T for one in v and T. p is taken in kPa, so that v·p is in kJ/kg.
 -- Definitions only.
-use Rattle.std.specs.Prelude.{ℕ, ◌-◌, Bool, cond, not, ◌&&◌, [], ◌∷◌, leb, get_or, Float}
+use Rattle.std.specs.Prelude.{◌≡◌, ℕ, ◌-◌, Bool, false, cond, not, ◌&&◌, [], ◌∷◌, leb, get_or, Float, Result, Ok, Err, MatchResult}
 use Rattle.std.specs.Float.{nan}
 use Rattle.std.specs.Float.Ieee.{neg, eq}
 use Rattle.arith.specs.F64.{f64, ◌⊕◌, ◌⊖◌, ◌⊗◌, ◌⊘◌}
@@ -11,9 +11,9 @@ use Rattle.properties.specs.declared.Response.{Response}
 use Rattle.properties.specs.declared.PressureResponse.{PressureResponse}
 use Rattle.slopes.specs.declared.Row.{Row}
 use Rattle.slopes.specs.declared.Slopes.{Slopes}
+use Rattle.refusals.specs.declared.Refusal.{Refusal}
+use Rattle.slopes.specs.declared.numbers.Property.{Property}
 use Rattle.slopes.specs.declared.ratios.Change.{Change}
-use Rattle.slopes.specs.declared.Derivative.{Derivative}
-use Rattle.slopes.specs.declared.Derivative.TheVariants.{Value, Refused}
 
 -- ---- an equation in p and T: regions 1, 2 and 5
 
@@ -104,11 +104,23 @@ determinant a z y = slope a.first z ⊗ slope a.second y ⊖ slope a.second z �
 unfoldable pub divides_of : Float → Bool
 divides_of below = not (eq below (f64 0)) && finite below
 
-abbrev pub ratio_of : Float → Float → Derivative
-ratio_of above below = cond (divides_of below) (Value (above ⊘ below)) (Refused 8)
+abbrev pub ratio_of : Float → Float → Result Float Refusal
+ratio_of above below = cond (divides_of below) (Ok (above ⊘ below)) (Err Refusal.NoDerivative)
 
-unfoldable pub ratio_at : Slopes → ℕ → ℕ → ℕ → Derivative
+unfoldable pub ratio_at : Slopes → ℕ → ℕ → ℕ → Result Float Refusal
 ratio_at a z x y = ratio_of (determinant a z y) (determinant a x y)
+
+-- ---- the properties by their numbers
+
+abbrev pub number_of : Property → ℕ
+number_of Property.Pressure = 1
+number_of Property.Temperature = 2
+number_of Property.Volume = 3
+number_of Property.InternalEnergy = 4
+number_of Property.Enthalpy = 5
+number_of Property.Entropy = 6
+number_of Property.GibbsEnergy = 7
+number_of Property.HelmholtzEnergy = 8
 
 -- the number of a property
 abbrev pub known : ℕ → Bool
@@ -117,6 +129,10 @@ known n = leb 1 n && leb n 8
 unfoldable pub all_known : ℕ → ℕ → ℕ → Bool
 all_known z x y = known z && (known x && known y)
 
+-- the property that a number names; any other number is refused by 9
+abbrev pub Names : ℕ → Result Property Refusal → Type 0
+Names n r = MatchResult r (λ property. number_of property ≡ n) (λ why. (why ≡ Refusal.UnknownNumber) × (known n ≡ false))
+
 -- a number that is no property's is refused by 9
-unfoldable pub derivative_at : Slopes → ℕ → ℕ → ℕ → Derivative
-derivative_at a z x y = cond (all_known z x y) (ratio_at a z x y) (Refused 9)
+unfoldable pub derivative_at : Slopes → ℕ → ℕ → ℕ → Result Float Refusal
+derivative_at a z x y = cond (all_known z x y) (ratio_at a z x y) (Err Refusal.UnknownNumber)

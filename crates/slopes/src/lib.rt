@@ -3,12 +3,10 @@
 // constant third. Every call takes every number; what it answers is said in specs/.
 #![tactic(auto)]
 
-mod answers;
 mod numbers;
 mod ratios;
 mod tables;
 
-pub use answers::{number, value};
 pub use numbers::all_known;
 pub use ratios::quotient;
 pub use tables::{by_p_and_t, by_v_and_t};
@@ -32,11 +30,4 @@ pub struct Row {
 pub struct Slopes {
     pub first: Row,
     pub second: Row,
-}
-
-// What a derivative is answered.
-#[derive(Clone, Copy)]
-pub enum Derivative {
-    Value(f64),
-    Refused(u64),
 }

@@ -1,12 +1,47 @@
-// The numbers of properties (specs/Slopes.antt).
+// The properties that a derivative names, and their numbers (specs/Slopes.antt).
 ghost use Rattle.std.specs.Prelude.{◌≡◌};
-ghost use Rattle.slopes.specs.Slopes.{known, all_known};
+ghost use Rattle.slopes.specs.Slopes.{known, all_known, Names};
+
+use refusals::Refusal;
+
+// p, T, v, u, h, s, g and f, in the order of their numbers, 1 to 8.
+#[derive(Clone, Copy)]
+pub(crate) enum Property {
+    Pressure,
+    Temperature,
+    Volume,
+    InternalEnergy,
+    Enthalpy,
+    Entropy,
+    GibbsEnergy,
+    HelmholtzEnergy,
+}
+
+impl TryFrom<u64> for Property {
+    type Error = Refusal;
+
+    ghost try_from_gives = { Names };
+
+    fn try_from(n: u64) -> Result<Self, Refusal> {
+        match n {
+            1 => Ok(Property::Pressure),
+            2 => Ok(Property::Temperature),
+            3 => Ok(Property::Volume),
+            4 => Ok(Property::InternalEnergy),
+            5 => Ok(Property::Enthalpy),
+            6 => Ok(Property::Entropy),
+            7 => Ok(Property::GibbsEnergy),
+            8 => Ok(Property::HelmholtzEnergy),
+            _ => Err(Refusal::UnknownNumber),
+        }
+    }
+}
 
 // Whether n is the number of a property.
 fn known(n: u64) -> bool
     ensures { result ≡ known n }
 {
-    1 <= n && n <= 8
+    Property::try_from(n).is_ok()
 }
 
 // Whether z, x and y are.

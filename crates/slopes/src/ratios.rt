@@ -1,10 +1,11 @@
 // Quotients of two determinants of slopes (specs/Slopes.antt).
-ghost use Rattle.std.specs.Prelude.{◌≡◌, true, ◌≤◌};
+ghost use Rattle.std.specs.Prelude.{◌≡◌};
 ghost use Rattle.arith.specs.F64.{◌⊖◌, ◌⊗◌};
-ghost use Rattle.slopes.specs.Slopes.{change_of, divides_of, ratio_at, all_known, derivative_at};
+ghost use Rattle.slopes.specs.Slopes.{number_of, change_of, divides_of, ratio_at, derivative_at};
 
-use crate::numbers::all_known;
-use crate::{Derivative, Slopes};
+use crate::Slopes;
+use crate::numbers::Property;
+use refusals::Refusal;
 
 // How one property changes with the first variable, and with the second.
 #[derive(Clone, Copy)]
@@ -13,42 +14,39 @@ pub(crate) struct Change {
     pub second: f64,
 }
 
-// Of property n: p, T, v, u, h, s, g, f are 1 to 8. By n % 8 the compiler knows that there are eight cases
-// and tests for no other.
-fn change_of(a: Slopes, n: u64) -> Change
-    requires { (1 ≤ n) × (n ≤ 8) }
-    ensures { result ≡ change_of a n }
+fn change_of(a: Slopes, property: Property) -> Change
+    ensures { result ≡ change_of a (number_of property) }
 {
-    match n % 8 {
-        1 => Change {
+    match property {
+        Property::Pressure => Change {
             first: a.first.p,
             second: a.second.p,
         },
-        2 => Change {
+        Property::Temperature => Change {
             first: a.first.t,
             second: a.second.t,
         },
-        3 => Change {
+        Property::Volume => Change {
             first: a.first.v,
             second: a.second.v,
         },
-        4 => Change {
+        Property::InternalEnergy => Change {
             first: a.first.u,
             second: a.second.u,
         },
-        5 => Change {
+        Property::Enthalpy => Change {
             first: a.first.h,
             second: a.second.h,
         },
-        6 => Change {
+        Property::Entropy => Change {
             first: a.first.s,
             second: a.second.s,
         },
-        7 => Change {
+        Property::GibbsEnergy => Change {
             first: a.first.g,
             second: a.second.g,
         },
-        _ => Change {
+        Property::HelmholtzEnergy => Change {
             first: a.first.f,
             second: a.second.f,
         },
@@ -74,25 +72,27 @@ fn divides(below: f64) -> bool
 
 // The quotient at a state, from its slopes; 8 if its denominator is zero or not finite. That is judged
 // before the numerator is worked.
-fn at(a: Slopes, z: u64, x: u64, y: u64) -> Derivative
-    requires { all_known z x y ≡ true }
-    ensures { result ≡ ratio_at a z x y }
+fn at(a: Slopes, z: Property, x: Property, y: Property) -> Result<f64, Refusal>
+    ensures { result ≡ ratio_at a (number_of z) (number_of x) (number_of y) }
 {
     let held = change_of(a, y);
     let below = determinant(change_of(a, x), held);
     if divides(below) {
         let above = determinant(change_of(a, z), held);
-        return Derivative::Value(above / below);
+        return Ok(above / below);
     }
-    Derivative::Refused(8)
+    Err(Refusal::NoDerivative)
 }
 
 // The derivative of property z by property x at constant y, numbered 1 to 8, at a state, from its slopes.
-pub fn quotient(a: Slopes, z: u64, x: u64, y: u64) -> Derivative
+#[tactic(auto, unfolding(crate::specs::Slopes::derivative_at, crate::specs::Slopes::all_known))]
+pub fn quotient(a: Slopes, z: u64, x: u64, y: u64) -> Result<f64, Refusal>
     ensures { result ≡ derivative_at a z x y }
 {
-    if all_known(z, x, y) {
-        return at(a, z, x, y);
-    }
-    Derivative::Refused(9)
+    at(
+        a,
+        Property::try_from(z)?,
+        Property::try_from(x)?,
+        Property::try_from(y)?,
+    )
 }
