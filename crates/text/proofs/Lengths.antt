@@ -8,8 +8,7 @@ use lib.Dec.{ltb}
 use lib.Ieee.{Float, nan, inf, fin, is_nan, binary64, to_bits}
 use lib.ListN.{length, length-append}
 use Rattle.text.specs.Texts.{decimal_from, decimal_of, hex_digit, hex_from, hex_of, value_of, column_of, joined}
-use Rattle.text.specs.declared.Cell.{Cell}
-use Rattle.text.specs.declared.Cell.TheVariants.{Value, Empty}
+use Rattle.std.specs.Prelude.{Option, Some, None}
 use Rattle.text.specs.Decimals.{scaled_of, digits_from, pointed_of, sign_of, modest, fixed_of}
 
 decimal_from_lem : (k n : ℕ) → length (decimal_from k n) ≤ k
@@ -38,10 +37,10 @@ value_short x = go (is_nan x)
     go true = omega arith
     go false = hex_from_lem 16 (to_bits binary64 x)
 
-pub column_short : (c : Cell) → length (column_of c) ≤ 16
+pub column_short : (c : Option Float) → length (column_of c) ≤ 16
 unfolding column_of
-column_short Empty = omega arith
-column_short (Value x) = value_short x
+column_short None = omega arith
+column_short (Some x) = value_short x
 
 -- n texts, each of at most m bytes
 pub joined_short : (text : ℕ → List ℕ) (m n : ℕ) → ((k : ℕ) → length (text k) ≤ m) → length (joined text n) ≤ m * n

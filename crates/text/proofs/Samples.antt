@@ -4,7 +4,7 @@ use mathlib.Core.Bool.{true, false}
 use mathlib.Core.List.{[], ◌∷◌}
 use lib.IntN.{pos, negsuc}
 use lib.Ieee.{nan, inf, fin, binary64, round, is_nan, to_bits}
-use Rattle.text.specs.declared.Cell.TheVariants.{Value, Empty}
+use Rattle.std.specs.Prelude.{Some, None}
 use Rattle.text.specs.Texts.{decimal_from, decimal_of, hex_digit, hex_from, hex_of, value_of, column_of}
 use Rattle.text.specs.Decimals.{nearest_of, scaled_of, digits_from, pointed_of, sign_of, modest, fixed_of}
 
@@ -31,22 +31,22 @@ unfolding hex_of hex_from hex_digit
 digits_hex = refl
 
 -- 1.0 is `3ff0000000000000`
-one_column : column_of (Value (fin false 1 (pos 0))) ≡ 51 ∷ 102 ∷ 102 ∷ 48 ∷ 48 ∷ 48 ∷ 48 ∷ 48 ∷ 48 ∷ 48 ∷ 48 ∷ 48 ∷ 48 ∷ 48 ∷ 48 ∷ 48 ∷ []
+one_column : column_of (Some (fin false 1 (pos 0))) ≡ 51 ∷ 102 ∷ 102 ∷ 48 ∷ 48 ∷ 48 ∷ 48 ∷ 48 ∷ 48 ∷ 48 ∷ 48 ∷ 48 ∷ 48 ∷ 48 ∷ 48 ∷ 48 ∷ []
 unfolding column_of value_of hex_of hex_from hex_digit is_nan to_bits
 one_column = refl
 
 -- minus infinity is `fff0000000000000`
-infinity_column : column_of (Value (inf true)) ≡ 102 ∷ 102 ∷ 102 ∷ 48 ∷ 48 ∷ 48 ∷ 48 ∷ 48 ∷ 48 ∷ 48 ∷ 48 ∷ 48 ∷ 48 ∷ 48 ∷ 48 ∷ 48 ∷ []
+infinity_column : column_of (Some (inf true)) ≡ 102 ∷ 102 ∷ 102 ∷ 48 ∷ 48 ∷ 48 ∷ 48 ∷ 48 ∷ 48 ∷ 48 ∷ 48 ∷ 48 ∷ 48 ∷ 48 ∷ 48 ∷ 48 ∷ []
 unfolding column_of value_of hex_of hex_from hex_digit is_nan to_bits
 infinity_column = refl
 
 -- `nan`
-nan_column : column_of (Value nan) ≡ 110 ∷ 97 ∷ 110 ∷ []
+nan_column : column_of (Some nan) ≡ 110 ∷ 97 ∷ 110 ∷ []
 unfolding column_of value_of is_nan
 nan_column = refl
 
 -- `-`
-empty_column : column_of Empty ≡ 45 ∷ []
+empty_column : column_of None ≡ 45 ∷ []
 unfolding column_of
 empty_column = refl
 

@@ -1,9 +1,7 @@
 -- Text in bytes of ASCII: whole numbers in decimal, 64 bits in hexadecimal, the f64 column of the programs, and texts one behind the other. Definitions only.
-use Rattle.std.specs.Prelude.{ℕ, zero, suc, ◌+◌, ◌/◌, ◌%◌, cond, List, [], ◌∷◌, ◌++◌, ltb, Float}
+use Rattle.std.specs.Prelude.{ℕ, zero, suc, ◌+◌, ◌/◌, ◌%◌, cond, List, [], ◌∷◌, ◌++◌, ltb, Float, Option, Some, None}
 use Rattle.std.specs.Float.Ieee.{is_nan, to_bits}
 use Rattle.std.specs.Float.{binary64}
-use Rattle.text.specs.declared.Cell.{Cell}
-use Rattle.text.specs.declared.Cell.TheVariants.{Value, Empty}
 
 -- the digits of a number below 10^k, with no zero in front: those of n / 10, and then the last
 unfoldable pub decimal_from : ℕ → ℕ → List ℕ
@@ -31,9 +29,9 @@ unfoldable pub value_of : Float → List ℕ
 value_of x = cond (is_nan x) (110 ∷ 97 ∷ 110 ∷ []) (hex_of (to_bits binary64 x))
 
 -- a column of a line: a value, or `-` where there is none
-unfoldable pub column_of : Cell → List ℕ
-column_of (Value x) = value_of x
-column_of Empty = 45 ∷ []
+unfoldable pub column_of : Option Float → List ℕ
+column_of (Some x) = value_of x
+column_of None = 45 ∷ []
 
 -- what stands behind a column, and behind the last
 abbrev pub blank : ℕ
@@ -48,7 +46,7 @@ number_column n end = decimal_of n ++ end ∷ []
 
 -- an f64's column
 abbrev pub float_column : Float → ℕ → List ℕ
-float_column x end = column_of (Value x) ++ end ∷ []
+float_column x end = column_of (Some x) ++ end ∷ []
 
 -- n texts one behind the other, numbered from 0
 unfoldable pub joined : (ℕ → List ℕ) → ℕ → List ℕ

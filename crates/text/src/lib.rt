@@ -6,40 +6,21 @@
 
 mod plain;
 
-ghost use Rattle.std.specs.Prelude.{◌≡◌, [], ◌∷◌, ◌++◌, ◌-◌, ◌<◌, min};
+ghost use Rattle.std.specs.Prelude.{◌≡◌, [], ◌∷◌, ◌++◌, ◌<◌};
 ghost use Rattle.text.specs.Room.{Written};
 ghost use Rattle.text.specs.Texts.{decimal_of, hex_digit, hex_of, column_of};
 
 pub use plain::fixed;
 
-// A column of a line: an f64, or that there is none.
-#[derive(Clone, Copy)]
-pub enum Cell {
-    Value(f64),
-    Empty,
-}
-
-// How many of so many bytes fit into a room from a place on.
-fn fitting(many: usize, room: usize, at: usize) -> usize
-    ensures { result ≡ min (room - at) many }
-{
-    if room <= at {
-        return 0;
-    }
-    let left = room - at;
-    if left < many { left } else { many }
-}
-
 // Writes a string of bytes.
 pub fn bytes(src: &[u8], out: &mut [u8], at: usize) -> usize
     ensures { Written out.old at src.now out.new result }
 {
-    let n = fitting(src.len(), out.len(), at);
-    let mut i = 0;
-    while i < n {
-        out[at + i] = src[i];
-        i += 1;
+    if out.len() <= at {
+        return at;
     }
+    let n = src.len().min(out.len() - at);
+    out[at..at + n].copy_from_slice(&src[..n]);
     at + n
 }
 
@@ -54,7 +35,7 @@ pub fn decimal(n: u64, end: u8, out: &mut [u8], at: usize) -> usize
     while left >= 10 {
         first -= 1;
         text[first] = (48 + left % 10) as u8;
-        left = left / 10;
+        left /= 10;
     }
     first -= 1;
     text[first] = (48 + left) as u8;
@@ -79,32 +60,24 @@ pub fn hex(bits: u64, end: u8, out: &mut [u8], at: usize) -> usize
 {
     let mut text = [0u8; 17];
     text[16] = end;
-    let mut first = 16;
     let mut left = bits;
-    while first > 0 {
-        first -= 1;
-        text[first] = hex_digit(left % 16);
-        left = left / 16;
+    for i in (0..16).rev() {
+        text[i] = hex_digit(left % 16);
+        left /= 16;
     }
     bytes(&text, out, at)
 }
 
 // Writes a column of a line, and the byte that ends it: the bits of an f64 in hexadecimal, `nan`,
 // or `-` where there is no value.
-pub fn column(c: Cell, end: u8, out: &mut [u8], at: usize) -> usize
+pub fn column(c: Option<f64>, end: u8, out: &mut [u8], at: usize) -> usize
     ensures { Written out.old at (column_of c ++ end ∷ []) out.new result }
 {
-    match c {
-        Cell::Empty => {
-            let text = [b'-', end];
-            bytes(&text, out, at)
-        }
-        Cell::Value(x) => {
-            if x != x {
-                let text = [b'n', b'a', b'n', end];
-                return bytes(&text, out, at);
-            }
-            hex(f64::to_bits(x), end, out, at)
-        }
+    let Some(x) = c else {
+        return bytes(&[b'-', end], out, at);
+    };
+    if x != x {
+        return bytes(&[b'n', b'a', b'n', end], out, at);
     }
+    hex(f64::to_bits(x), end, out, at)
 }

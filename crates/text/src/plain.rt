@@ -1,24 +1,15 @@
 // Numbers for people, in plain decimals (specs/Decimals.antt).
-ghost use Rattle.std.specs.Prelude.{◌≡◌, [], ◌∷◌, ◌++◌, cond, ◌*◌, ◌%◌, ◌^◌, ◌<◌, ◌≤◌, min, leb};
+ghost use Rattle.std.specs.Prelude.{◌≡◌, [], ◌∷◌, ◌++◌, cond, ◌*◌, ◌%◌, ◌^◌, ◌<◌, ◌≤◌, leb};
 ghost use Rattle.std.specs.Float.{binary64};
 ghost use Rattle.std.specs.Float.Ieee.{of_bits};
 ghost use Rattle.text.specs.Room.{Written};
 ghost use Rattle.text.specs.Decimals.{modest, scaled_of, digits_from, pointed_of, fixed_of};
-
-use super::Cell;
 
 // Whether x lies between -2^53 and 2^53. No infinity and no NaN does.
 fn is_modest(x: f64) -> bool
     ensures { result ≡ modest x }
 {
     -9007199254740992.0 < x && x < 9007199254740992.0
-}
-
-// How many decimals are written where so many are asked for.
-fn at_most_three(places: usize) -> usize
-    ensures { result ≡ min places 3 }
-{
-    if places < 3 { places } else { 3 }
 }
 
 fn power_of_ten(k: usize) -> u64
@@ -56,12 +47,10 @@ fn last_digits(n: u64, k: usize, end: u8, out: &mut [u8], at: usize) -> usize
 {
     let mut text = [0u8; 4];
     text[3] = end;
-    let mut first = 3;
     let mut left = n;
-    while first > 0 {
-        first -= 1;
-        text[first] = (48 + left % 10) as u8;
-        left = left / 10;
+    for i in (0..3).rev() {
+        text[i] = (48 + left % 10) as u8;
+        left /= 10;
     }
     let start = 3 - k;
     super::bytes(&text[start..], out, at)
@@ -96,9 +85,9 @@ pub fn fixed(x: f64, places: usize, end: u8, out: &mut [u8], at: usize) -> usize
     ensures { Written out.old at (fixed_of x places ++ end ∷ []) out.new result }
 {
     if !is_modest(x) {
-        return super::column(Cell::Value(x), end, out, at);
+        return super::column(Some(x), end, out, at);
     }
-    let k = at_most_three(places);
+    let k = places.min(3);
     let bits = f64::to_bits(x);
     let n = scaled(bits, power_of_ten(k));
     let front = sign(bits, out, at);

@@ -7,8 +7,7 @@ use lib.Dec.{T}
 use lib.Ieee.{Float, nan, inf, fin, is_nan, ne, binary64, to_bits}
 use lib.Ieee.Compare.{differs_from_itself, nan_differs}
 use Rattle.text.specs.Texts.{hex_of, value_of, column_of}
-use Rattle.text.specs.declared.Cell.{Cell}
-use Rattle.text.specs.declared.Cell.TheVariants.{Value}
+use Rattle.std.specs.Prelude.{Option, Some}
 use Rattle.text.proofs.Pieces.{said, reads}
 use Rattle.text.proofs.column.Goals as goal
 
@@ -23,25 +22,24 @@ no_nan nan e = absurd (true≢false (sym nan_differs ∙ e))
 no_nan (inf s) e = refl
 no_nan (fin s m d) e = refl
 
--- the column of a cell that holds a value, with the byte that ends it
-text_of : (c : Cell) (x : Float) (t : Bool) (end : ℕ) → c ≡ Value x → is_nan x ≡ t
+-- the column where there is a value, with the byte that ends it
+text_of : (c : Option Float) (x : Float) (t : Bool) (end : ℕ) → c ≡ Some x → is_nan x ≡ t
     → cond t (110 ∷ 97 ∷ 110 ∷ []) (hex_of (to_bits binary64 x)) ++ end ∷ [] ≡ column_of c ++ end ∷ []
 unfolding column_of value_of
 text_of c x t end e q =
-    ap (λ (b : Bool). cond b (110 ∷ 97 ∷ 110 ∷ []) (hex_of (to_bits binary64 x)) ++ end ∷ []) (sym q) ∙ ap (λ (d : Cell). column_of d ++ end ∷ []) (sym e)
+    ap (λ (b : Bool). cond b (110 ∷ 97 ∷ 110 ∷ []) (hex_of (to_bits binary64 x)) ++ end ∷ []) (sym q) ∙ ap (λ (d : Option Float). column_of d ++ end ∷ []) (sym e)
 
 pub returns-then-x : goal.returns-then-x
 returns-then-x c =
-    said (text_of _ _ true c.args.end c.in-Value.is (is-nan _ c.if-x.true)) c.bytes-then-x.ensures
+    said (text_of _ _ true c.args.end c.in-Some.is (is-nan _ c.if-x.true)) c.bytes-then-x.ensures
 
 pub float_to_bits-x : goal.float_to_bits-x
 float_to_bits-x c = subst (λ (t : Bool). T (not t)) (sym (no_nan _ c.if-x.false)) tt
 
-pub returns-in-Empty : goal.returns-in-Empty
+pub returns-in_default : goal.returns-in_default
 unfolding column_of
-returns-in-Empty c =
-    reads c.bytes.ensures (rw c.in-Empty.is refl)
+returns-in_default c = reads c.bytes.ensures (rw c.in_default.is refl)
 
-pub returns-else-x : goal.returns-else-x
-returns-else-x c =
-    said (text_of _ _ false c.args.end c.in-Value.is (no_nan _ c.if-x.false)) c.hex.ensures
+pub returns : goal.returns
+returns c =
+    said (text_of _ _ false c.args.end c.in-Some.is (no_nan _ c.if-x.false)) c.hex.ensures

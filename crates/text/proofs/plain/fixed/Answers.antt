@@ -57,7 +57,7 @@ scaled-n-requires c =
     let x = c.args.x in
     let h : modest x ≡ true = sym c.is_modest.ensures ∙ c.if-not-is_modest.false in
     let b = bits_bound (to_bits binary64 x) (ap modest (own x c.well_formed.0.1) ∙ h) in
-    let k = c.at_most_three-k.result in
+    let k = c.min-k.result in
     let s : 10 ^ k ≤ 10 ^ 3 = pow-le-pow_right {n = 10} (omega arith) {i = k} {j = 3} (omega arith) in
     (omega arith, omega arith)
 
@@ -68,7 +68,7 @@ returns c =
     (as-decimals a.x (to_bits binary64 a.x) a.places _ _ _ a.end
     (own a.x c.well_formed.0.1)
     (sym c.is_modest.ensures ∙ c.if-not-is_modest.false)
-    c.at_most_three-k.ensures
+    c.min-k.ensures
     c.power_of_ten.ensures
     c.scaled-n.ensures)
     (then c.sign-front.ensures c.pointed.ensures)
