@@ -20,20 +20,7 @@ pub fn region_of(equation: Equation) -> u64
 pub fn is_of(equation: Equation, phase: Phase) -> bool
     ensures { result ≡ is_of equation phase }
 {
-    match phase {
-        Phase::Liquid => match equation {
-            Equation::Region1 => true,
-            Equation::Region2 => false,
-            Equation::Region3 => false,
-            Equation::Region5 => false,
-        },
-        Phase::Vapour => match equation {
-            Equation::Region1 => false,
-            Equation::Region2 => true,
-            Equation::Region3 => false,
-            Equation::Region5 => false,
-        },
-    }
+    equation == equation_of(phase)
 }
 
 // The equation of a phase.
