@@ -31,6 +31,7 @@ fn past_by(phase: Phase, saturated: f64, t: f64) -> f64
 }
 
 // t, or the line's temperature where t lies past it.
+#[tactic(auto, unfolding(crate::specs::Pull::pulled_to))]
 pub fn pulled(phase: Phase, saturated: f64, t: f64) -> f64
     ensures { result ≡ pulled_to phase saturated t }
 {
