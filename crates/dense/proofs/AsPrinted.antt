@@ -8,7 +8,8 @@ use Rattle.arith.proofs.Order.{lt_le, le_not_nan, lt_is_not_le}
 use Rattle.brackets.specs.declared.Bracket.{Bracket}
 use Rattle.saturation_line.specs.Printed.{equation28}
 use Rattle.saturation_line.specs.Pressure.{t273, up_to623, above623, ps_of}
-use Rattle.saturation_line.specs.declared.SaturationPressure.TheVariants.{UpTo623, Above623, Nowhere}
+use Rattle.saturation_line.specs.declared.SaturationPressure.TheVariants.{UpTo623, Above623}
+use Rattle.std.specs.Prelude.{Some, None}
 use Rattle.saturation_line.proofs.Told.{on_line, exhaustive}
 use Rattle.dense.specs.Region3.{density*, T*}
 use Rattle.dense.specs.Density.{least3, most3, reaches3, first3}
@@ -28,7 +29,7 @@ reached : (p t : Float) → on_line t ≡ true → reaches3 (ps_of t) p ≡ le (
 unfolding ps_of
 reached p t h = go (up_to623 t) (above623 t) (exhaustive t ∙ h)
   where
-    go : (b w : Bool) → b || w ≡ true → reaches3 (cond b (UpTo623 (equation28 t)) (cond w (Above623 (equation28 t)) Nowhere)) p ≡ le (equation28 t) p
+    go : (b w : Bool) → b || w ≡ true → reaches3 (cond b (Some (UpTo623 (equation28 t))) (cond w (Some (Above623 (equation28 t))) None)) p ≡ le (equation28 t) p
     go true w h = refl
     go false true h = refl
     go false false h = absurd (true≢false (sym h))

@@ -15,13 +15,13 @@ const MOST: f64 = 800.0;
 const HALVINGS: u64 = 60;
 
 // Whether p is at least the saturation pressure, of whichever case; it is not where there is none.
-fn reaches(s: SaturationPressure, p: f64) -> bool
+fn reaches(s: Option<SaturationPressure>, p: f64) -> bool
     ensures { result ≡ reaches3 s p }
 {
     match s {
-        SaturationPressure::UpTo623(saturated) => saturated <= p,
-        SaturationPressure::Above623(saturated) => saturated <= p,
-        SaturationPressure::Nowhere => false,
+        Some(SaturationPressure::UpTo623(saturated)) => saturated <= p,
+        Some(SaturationPressure::Above623(saturated)) => saturated <= p,
+        None => false,
     }
 }
 
@@ -61,10 +61,8 @@ pub fn density(p: f64, t: f64) -> f64
     ensures { result ≡ density3 p t }
 {
     let mut b = first_bracket(p, t);
-    let mut k = 0u64;
-    while k < HALVINGS {
+    for _ in 0..HALVINGS {
         b = halved(p, t, b);
-        k += 1;
     }
     middle(b.lo, b.hi)
 }

@@ -61,8 +61,8 @@ const N: [f64; 39] = [
 ];
 
 // Above 623.15 K and up to 863.15 K, at pressures above those of region 2.
-#[derive(Drop)]
-pub struct Region3 {}
+#[derive(Clone, Copy)]
+pub struct Region3;
 
 impl Region3 {
     // The gas constant R in kJ/(kg K).

@@ -6,18 +6,18 @@ use Rattle.brackets.specs.Brackets.{times}
 use Rattle.dense.specs.Density.{halvings3, halved3, density3}
 use Rattle.dense.proofs.densities.density.Goals as goal
 
-pub loop-k-init : goal.loop-k-init
+pub loop-init : goal.loop-init
 unfolding times
-loop-k-init c = (omega arith, c.first_bracket-b.ensures)
+loop-init c = c.first_bracket-b.ensures
 
-pub loop-k-preserved : goal.loop-k-preserved
+pub loop-preserved : goal.loop-preserved
 unfolding times
-loop-k-preserved c =
+loop-preserved c =
     let a = c.args in
-    (omega arith, rw (add-one) (c.halved-b.ensures ∙ ap (halved3 a.p a.t) c.loop-k.invariant.1))
+    rw (add-one) (c.halved-b.ensures ∙ ap (halved3 a.p a.t) c.loop.invariant)
 
 pub returns : goal.returns
 unfolding density3
 returns c =
-    let full : c.loop-k.k ≡ halvings3 = omega arith in
-    rw (c.middle.ensures, c.loop-k.invariant.1, full) refl
+    let full : c.loop.counter ≡ halvings3 = omega arith in
+    rw (c.middle.ensures, c.loop.invariant, full) refl
