@@ -4,15 +4,10 @@ use mathlib.Core.Path.{sym, ◌∙◌}
 use Rattle.arith.proofs.Only.{Only}
 use Rattle.reply.proofs.answers.mark.Kinds as mark_kinds
 use Rattle.reply.proofs.answers.mark.Reads as mark
-use Rattle.reply.proofs.answers.number.Kinds as number_kinds
-use Rattle.reply.proofs.answers.number.Reads as number
 use Rattle.reply.proofs.answers.region.Kinds as region_kinds
 use Rattle.reply.proofs.answers.region.Reads as region
 use Rattle.reply.proofs.answers.values.Kinds as values_kinds
 use Rattle.reply.proofs.answers.values.Reads as values
-
-pub number_only : Only 0 number_kinds.ps number_kinds.r number.Post
-number_only κs a x y s t p q = p ∙ sym q
 
 pub region_only : Only 0 region_kinds.ps region_kinds.r region.Post
 region_only κs a x y s t p q = p ∙ sym q

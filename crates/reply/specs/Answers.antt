@@ -1,42 +1,35 @@
--- What an answer says in the paper's words: its number, region, mark and values for each case. Definitions only.
-use Rattle.std.specs.Prelude.{ℕ, Bool, false, List, [], ◌∷◌}
+-- What an answer says in the paper's words: its region, mark and values for each case. Definitions only.
+use Rattle.std.specs.Prelude.{ℕ, Bool, false, List, [], ◌∷◌, Float, Option, Some, None, Result, Ok, Err}
 use Rattle.equations.specs.Equations as Equations
+use Rattle.refusals.specs.declared.Refusal.{Refusal}
 use Rattle.reply.specs.declared.Answer.{Answer}
-use Rattle.properties.specs.declared.Value.{Value}
-use Rattle.properties.specs.declared.Value.TheVariants.{Is, Missing}
-
--- the refusal, 0 if there is none
-abbrev pub number_of : Answer → ℕ
-number_of (Answer.Single a) = 0
-number_of (Answer.Wet a) = 0
-number_of (Answer.Refused n) = n
 
 -- the region, 0 if refused
-abbrev pub region_of : Answer → ℕ
-region_of (Answer.Single a) = Equations.region_of a.equation
-region_of (Answer.Wet a) = 4
-region_of (Answer.Refused n) = 0
+abbrev pub region_of : Result Answer Refusal → ℕ
+region_of (Ok (Answer.Single a)) = Equations.region_of a.equation
+region_of (Ok (Answer.Wet a)) = 4
+region_of (Err why) = 0
 
 -- whether it is a state that is verified
-abbrev pub mark_of : Answer → Bool
-mark_of (Answer.Single a) = a.verified
-mark_of (Answer.Wet a) = a.verified
-mark_of (Answer.Refused n) = false
+abbrev pub mark_of : Result Answer Refusal → Bool
+mark_of (Ok (Answer.Single a)) = a.verified
+mark_of (Ok (Answer.Wet a)) = a.verified
+mark_of (Err why) = false
 
 -- p, T, v, u, h, s, cp, w and x: a state of one phase has no quality x, a wet state no cp and no w, a refusal nothing
-abbrev pub values_of : Answer → List Value
-values_of (Answer.Single a) =
-    Is a.p
-    ∷ Is a.t
-    ∷ Is a.state.v
-    ∷ Is a.state.u
-    ∷ Is a.state.h
-    ∷ Is a.state.s
-    ∷ Is a.state.cp
-    ∷ Is a.state.w
-    ∷ Missing
+abbrev pub values_of : Result Answer Refusal → List (Option Float)
+values_of (Ok (Answer.Single a)) =
+    Some a.p
+    ∷ Some a.t
+    ∷ Some a.state.v
+    ∷ Some a.state.u
+    ∷ Some a.state.h
+    ∷ Some a.state.s
+    ∷ Some a.state.cp
+    ∷ Some a.state.w
+    ∷ None
     ∷ []
-values_of (Answer.Wet a) =
-    Is a.p ∷ Is a.t ∷ Is a.v ∷ Is a.u ∷ Is a.h ∷ Is a.s ∷ Missing ∷ Missing ∷ Is a.x ∷ []
-values_of (Answer.Refused n) =
-    Missing ∷ Missing ∷ Missing ∷ Missing ∷ Missing ∷ Missing ∷ Missing ∷ Missing ∷ Missing ∷ []
+values_of (Ok (Answer.Wet a)) =
+    Some a.p ∷ Some a.t ∷ Some a.v ∷ Some a.u ∷ Some a.h ∷ Some a.s ∷ None ∷ None ∷ Some a.x ∷ []
+values_of (Err why) =
+    None ∷ None ∷ None ∷ None ∷ None ∷ None ∷ None ∷ None ∷ None ∷ []
