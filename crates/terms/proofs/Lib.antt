@@ -1,5 +1,5 @@
 pub mod Only
 pub mod Exponents
-pub mod Table
+pub mod Rows
 pub mod Terms
 pub mod Lent

@@ -6,10 +6,17 @@
 mod row;
 mod walk;
 
-pub use walk::{six_sums, slope_by_a, slope_by_b, sum};
+// A table of a paper, lent: the exponents I and J as printed, and the coefficients n. Its rows go as far
+// as the shortest slice.
+#[derive(Clone, Copy)]
+pub struct Table<'a> {
+    pub i: &'a [i8],
+    pub j: &'a [i8],
+    pub n: &'a [f64],
+}
 
 // A sum and its derivatives by A and B.
-#[derive(Clone, Copy)]
+#[derive(Clone, Copy, Default)]
 pub struct Six {
     pub f: f64,
     pub fa: f64,

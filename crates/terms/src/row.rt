@@ -13,7 +13,7 @@ use crate::Six;
 fn lowered(e: i8, d: u8) -> i16
     ensures { result ≡ e -ℤ pos d }
 {
-    e as i16 - d as i16
+    i16::from(e) - i16::from(d)
 }
 
 // x^(e-d).
@@ -28,19 +28,18 @@ fn scaled(n: f64, e: i8, d: u8) -> f64
     ensures { result ≡ scaled n e d }
 {
     let mut f = n;
-    let mut k = 0u8;
-    while k < d {
+    for k in 0..d {
         f = f * (lowered(e, k) as f64);
-        k += 1;
     }
     f
 }
 
 // Whether one of those factors is 0.
+#[tactic(auto, unfolding(crate::specs::Sum::gone))]
 fn gone(e: i8, d: u8) -> bool
     ensures { result ≡ gone e d }
 {
-    0 <= e && (e as i16) < (d as i16)
+    0 <= e && i16::from(e) < i16::from(d)
 }
 
 // r and a row's term of orders da and db, made of its factor f and its powers x and y, unless it is left

@@ -7,25 +7,11 @@
 // goes in line only where the row is known; the end of a group is known only with the table; and whoever
 // lends a table does so in a function that is called once (bench/count --limits shows a loss of it).
 ghost use Rattle.std.specs.Prelude.{min, ◌<◌, ◌≤◌, ◌≡◌, length, drop};
-ghost use Rattle.terms.specs.Sum.{rows, sum_of};
+ghost use Rattle.terms.specs.Sum.{rows_of, sum_of};
 ghost use Rattle.terms.specs.Six.{six_of, six_from};
 
-use crate::Six;
 use crate::row::plus_six;
-
-// The smaller of two lengths.
-fn smaller(x: usize, y: usize) -> usize
-    ensures { result ≡ min x y }
-{
-    if x <= y { x } else { y }
-}
-
-// The number of rows: as many as the shortest slice has.
-fn count(n: &[f64], i: &[i8], j: &[i8]) -> usize
-    ensures { result ≡ length (rows n.now i.now j.now) }
-{
-    smaller(n.len(), smaller(i.len(), j.len()))
-}
+use crate::{Six, Table};
 
 // Where the group of rows ends that begins at k: eight rows on, or with the table.
 fn group_end(k: usize, m: usize) -> usize
@@ -35,66 +21,67 @@ fn group_end(k: usize, m: usize) -> usize
     if m - k <= 8 { m } else { k + 8 }
 }
 
-// Six sums with the terms of the rows from k on added, as far as e.
-fn group(s: Six, n: &[f64], i: &[i8], j: &[i8], k: usize, e: usize, a: f64, b: f64) -> Six
-    requires { (k ≤ e) × (e ≤ length (rows n.now i.now j.now)) }
-    ensures { six_from a b result (drop e (rows n.now i.now j.now)) ≡ six_from a b s (drop k (rows n.now i.now j.now)) }
-{
-    let mut r = s;
-    let mut l = k;
-    while l < e {
-        r = plus_six(r, i[l], j[l], n[l], a, b);
-        l += 1;
+impl Table<'_> {
+    // The number of rows: as many as the shortest slice has.
+    fn count(self) -> usize
+        ensures { result ≡ length (rows_of self.entry) }
+    {
+        self.n.len().min(self.i.len()).min(self.j.len())
     }
-    r
-}
 
-// The sum over a table and its derivatives.
-pub fn six_sums(n: &[f64], i: &[i8], j: &[i8], a: f64, b: f64) -> Six
-    ensures { result ≡ six_of (rows n.now i.now j.now) a b }
-{
-    let m = count(n, i, j);
-    let mut s = Six {
-        f: 0.0,
-        fa: 0.0,
-        faa: 0.0,
-        fb: 0.0,
-        fbb: 0.0,
-        fab: 0.0,
-    };
-    if m == 0 {
-        return s;
+    // Six sums with the terms of the rows from k on added, as far as e.
+    fn group(self, s: Six, k: usize, e: usize, a: f64, b: f64) -> Six
+        requires { (k ≤ e) × (e ≤ length (rows_of self)) }
+        ensures { six_from a b result (drop e (rows_of self.entry)) ≡ six_from a b s (drop k (rows_of self.entry)) }
+    {
+        let mut r = s;
+        for l in k..e {
+            r = plus_six(r, self.i[l], self.j[l], self.n[l], a, b);
+        }
+        r
     }
-    s = plus_six(s, i[0], j[0], n[0], a, b);
-    let mut k = 1usize;
-    while k < m {
-        let e = group_end(k, m);
-        s = group(s, n, i, j, k, e, a, b);
-        k = e;
+
+    // The sum over the table and its derivatives.
+    pub fn six(self, a: f64, b: f64) -> Six
+        ensures { result ≡ six_of (rows_of self.entry) a b }
+    {
+        let m = self.count();
+        let mut s = Six::default();
+        if m == 0 {
+            return s;
+        }
+        s = plus_six(s, self.i[0], self.j[0], self.n[0], a, b);
+        let mut k = 1usize;
+        // A while: the step is a group of rows, not a count.
+        while k < m {
+            let e = group_end(k, m);
+            s = self.group(s, k, e, a, b);
+            k = e;
+        }
+        s
     }
-    s
-}
 
-// The sum alone.
-pub fn sum(n: &[f64], i: &[i8], j: &[i8], a: f64, b: f64) -> f64
-    ensures { result ≡ sum_of (rows n.now i.now j.now) 0 0 a b }
-{
-    let s = six_sums(n, i, j, a, b);
-    s.f
-}
+    // The sum alone.
+    #[tactic(auto, unfolding(crate::specs::Six::six_of))]
+    pub fn sum(self, a: f64, b: f64) -> f64
+        ensures { result ≡ sum_of (rows_of self.entry) 0 0 a b }
+    {
+        self.six(a, b).f
+    }
 
-// Its derivative by A alone.
-pub fn slope_by_a(n: &[f64], i: &[i8], j: &[i8], a: f64, b: f64) -> f64
-    ensures { result ≡ sum_of (rows n.now i.now j.now) 1 0 a b }
-{
-    let s = six_sums(n, i, j, a, b);
-    s.fa
-}
+    // Its derivative by A alone.
+    #[tactic(auto, unfolding(crate::specs::Six::six_of))]
+    pub fn slope_by_a(self, a: f64, b: f64) -> f64
+        ensures { result ≡ sum_of (rows_of self.entry) 1 0 a b }
+    {
+        self.six(a, b).fa
+    }
 
-// Its derivative by B alone.
-pub fn slope_by_b(n: &[f64], i: &[i8], j: &[i8], a: f64, b: f64) -> f64
-    ensures { result ≡ sum_of (rows n.now i.now j.now) 0 1 a b }
-{
-    let s = six_sums(n, i, j, a, b);
-    s.fb
+    // Its derivative by B alone.
+    #[tactic(auto, unfolding(crate::specs::Six::six_of))]
+    pub fn slope_by_b(self, a: f64, b: f64) -> f64
+        ensures { result ≡ sum_of (rows_of self.entry) 0 1 a b }
+    {
+        self.six(a, b).fb
+    }
 }

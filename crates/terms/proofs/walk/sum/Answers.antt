@@ -1,9 +1,0 @@
--- `terms::walk::sum` meets its contract: it is the first of the six. Assumes nothing.
-use mathlib.Core.Path.{ap}
-use Rattle.terms.specs.Six.{six_of}
-use Rattle.terms.specs.declared.Six.{Six}
-use Rattle.terms.proofs.walk.sum.Goals as goal
-
-pub returns : goal.returns
-unfolding six_of
-returns c = ap (λ (s : Six). s.f) c.six_sums-s.ensures
