@@ -5,18 +5,11 @@
 ghost use Rattle.std.specs.Prelude.{◌≡◌, ◌<◌, get_or};
 ghost use Rattle.words.specs.Words.{u32_at, u64_at, word_of};
 
-// A byte as a u64.
-fn wide(x: u8) -> u64
-    ensures { (result ≡ x) × (result < 256) }
-{
-    x as u64
-}
-
 // The byte at place i.
-fn byte(s: &[u8], i: usize) -> u64
-    ensures { (result ≡ get_or s.now i 0) × (result < 256) }
+fn byte(s: &[u8], i: usize) -> u8
+    ensures { result ≡ get_or s.now i 0 }
 {
-    if i < s.len() { wide(s[i]) } else { 0 }
+    s.get(i).copied().unwrap_or(0)
 }
 
 // The u32 that starts at place i.
@@ -26,7 +19,8 @@ pub fn u32_at(s: &[u8], i: usize) -> u64
     if s.len() <= i {
         return 0;
     }
-    byte(s, i) + 256 * byte(s, i + 1) + 65536 * byte(s, i + 2) + 16777216 * byte(s, i + 3)
+    let bytes = [byte(s, i), byte(s, i + 1), byte(s, i + 2), byte(s, i + 3)];
+    u64::from(u32::from_le_bytes(bytes))
 }
 
 // The u64 that starts at place i.
