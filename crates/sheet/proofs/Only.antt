@@ -4,12 +4,10 @@ use mathlib.Core.Path.{sym, ◌∙◌}
 use Rattle.arith.proofs.Only.{Only}
 use Rattle.sheet.proofs.reader.read.Kinds as read_kinds
 use Rattle.sheet.proofs.reader.read.Reads as read
-use Rattle.sheet.proofs.reader.Reading.number.Kinds as read_number_kinds
-use Rattle.sheet.proofs.reader.Reading.number.Reads as read_number
-use Rattle.sheet.proofs.reader.Reading.count.Kinds as count_kinds
-use Rattle.sheet.proofs.reader.Reading.count.Reads as count
-use Rattle.sheet.proofs.reader.Reading.start.Kinds as start_kinds
-use Rattle.sheet.proofs.reader.Reading.start.Reads as start
+use Rattle.sheet.proofs.reader.count.Kinds as count_kinds
+use Rattle.sheet.proofs.reader.count.Reads as count
+use Rattle.sheet.proofs.reader.start.Kinds as start_kinds
+use Rattle.sheet.proofs.reader.start.Reads as start
 use Rattle.sheet.proofs.rows.kinds_known.Kinds as kinds_known_kinds
 use Rattle.sheet.proofs.rows.kinds_known.Reads as kinds_known_reads
 use Rattle.sheet.proofs.rows.row.Kinds as row_kinds
@@ -17,9 +15,6 @@ use Rattle.sheet.proofs.rows.row.Reads as row
 
 pub read_only : Only 1 read_kinds.ps read_kinds.r read.Post
 read_only κs a x y s t p q = p ∙ sym q
-
-pub read_number_only : Only 0 read_number_kinds.ps read_number_kinds.r read_number.Post
-read_number_only κs a x y s t p q = p ∙ sym q
 
 pub count_only : Only 0 count_kinds.ps count_kinds.r count.Post
 count_only κs a x y s t p q = p ∙ sym q

@@ -7,5 +7,5 @@
 mod reader;
 mod rows;
 
-pub use reader::{Reading, read};
+pub use reader::{Rows, count, read, start};
 pub use rows::{Point, kinds_known, row};

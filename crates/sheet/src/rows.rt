@@ -24,12 +24,10 @@ fn kind_known(kind: u64) -> bool
 pub fn kinds_known(rows: &[u8], n: usize) -> bool
     ensures { result ≡ kinds_known n rows.now }
 {
-    let mut k = 0;
-    while k < n {
+    for k in 0..n {
         if !kind_known(u64_at(rows, 24 * k)) {
             return false;
         }
-        k += 1;
     }
     true
 }

@@ -5,16 +5,11 @@ use Rattle.arith.proofs.Only.{Only}
 use Rattle.text.proofs.Only.{OnlyRoom}
 use Rattle.sheet_writer.proofs.write.Kinds as write_kinds
 use Rattle.sheet_writer.proofs.write.Reads as write
-use Rattle.sheet_writer.proofs.Writing.number.Kinds as write_number_kinds
-use Rattle.sheet_writer.proofs.Writing.number.Reads as write_number
-use Rattle.sheet_writer.proofs.Writing.length.Kinds as length_kinds
-use Rattle.sheet_writer.proofs.Writing.length.Reads as length
+use Rattle.sheet_writer.proofs.length.Kinds as length_kinds
+use Rattle.sheet_writer.proofs.length.Reads as length
 
 pub write_only : OnlyRoom 3 write_kinds.ps write_kinds.r (λ κs s. s.1.1.0.now) write.Post
 write_only κs a x y s t p q = (p.0 ∙ sym q.0, p.1 ∙ sym q.1)
-
-pub write_number_only : Only 0 write_number_kinds.ps write_number_kinds.r write_number.Post
-write_number_only κs a x y s t p q = p ∙ sym q
 
 pub length_only : Only 0 length_kinds.ps length_kinds.r length.Post
 length_only κs a x y s t p q = p ∙ sym q

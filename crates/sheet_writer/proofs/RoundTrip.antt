@@ -12,10 +12,10 @@ use borrow.Author.Tests.{le-ltb, le-leb, eq-eqb}
 use Rattle.words.specs.Words.{u32_at, u32_bytes}
 use Rattle.versions.specs.Versions.{known, allowed, version_for}
 use Rattle.sheet.specs.Rows.{kinds_known}
-use Rattle.sheet.specs.Read.{judged, trailer_of, read_of, rows_of}
+use Rattle.sheet.specs.Read.{rows_at, judged, trailer_of, read_of, rows_of}
 use Rattle.sheet_writer.specs.Write.{trailer_bytes, sheet_of, write_of, room_of}
-use Rattle.sheet.specs.declared.reader.Reading.TheVariants.{Rows, Refused}
-use Rattle.sheet_writer.specs.declared.Writing.TheVariants.{Length}
+use Rattle.std.specs.Prelude.{Ok, Err}
+use Rattle.refusals.specs.declared.Refusal.{Refusal}
 use Rattle.versions.proofs.VersionLaws.{allowed_small, version_known, version_small, version_one}
 use Rattle.words.proofs.WordLaws.{Bytes, u32_behind, u32_of_bytes, u32_bytes_at}
 use Rattle.sheet.proofs.ReadLaws.{trailer_rows, trailer_fits, read_rows, read_inv}
@@ -27,12 +27,12 @@ use Rattle.sheet_writer.proofs.WriteLaws.{Written, written, writes, room_sheet, 
 trailer_at : (s : List ℕ) (t : ℕ) → length s ≡ t + 16 → trailer_of s ≡ judged t (u32_at s t) (u32_at s (t + 4)) (u32_at s (t + 8)) (u32_at s (t + 12))
 unfolding trailer_of
 trailer_at s t e =
-    ap (λ (b : Bool). cond b (Refused 20) (let k = length s - 16 in judged k (u32_at s k) (u32_at s (k + 4)) (u32_at s (k + 8)) (u32_at s (k + 12)))) (le-ltb (length s) 16 (omega arith))
+    ap (λ (b : Bool). cond b (Err Refusal.ShortSheet) (let k = length s - 16 in judged k (u32_at s k) (u32_at s (k + 4)) (u32_at s (k + 8)) (u32_at s (k + 12)))) (le-ltb (length s) 16 (omega arith))
     ∙ ap (λ (k : ℕ). judged k (u32_at s k) (u32_at s (k + 4)) (u32_at s (k + 8)) (u32_at s (k + 12))) (omega arith)
 
 -- the words that are written are taken
 judged_words : (t count start version : ℕ) → known version ≡ true → allowed version count ≡ true → start + 24 * count ≡ t → start ≤ 4096
-    → judged t count (24 * count) version 0 ≡ Rows count start
+    → judged t count (24 * count) version 0 ≡ rows_at count start
 unfolding judged
 judged_words t count start version k a e h =
     let f : t - 24 * count ≡ start = omega arith in
@@ -41,7 +41,7 @@ judged_words t count start version k a e h =
 
 -- so a trailer behind a note and rows is read as it was written
 trailer_words : (p : List ℕ) (count start version : ℕ) → version < 4294967296 → known version ≡ true → allowed version count ≡ true
-    → start + 24 * count ≡ length p → start ≤ 4096 → trailer_of (p ++ trailer_bytes count version) ≡ Rows count start
+    → start + 24 * count ≡ length p → start ≤ 4096 → trailer_of (p ++ trailer_bytes count version) ≡ rows_at count start
 trailer_words p count start version v k a e h =
     let few : count ≤ 2500 = allowed_small version count a in
     let w = trailer_bytes count version in
@@ -71,7 +71,7 @@ rows_of_lem note rows count e =
 
 -- s reads as a note and rows
 pub record ReadsAs (s note rows : List ℕ) : Type 0 where
-  pub reads : read_of s ≡ Rows (length rows / 24) (length note)
+  pub reads : read_of s ≡ rows_at (length rows / 24) (length note)
   pub note_back : take (length note) s ≡ note
   pub rows_back : rows_of s (length rows / 24) (length note) ≡ rows
 
@@ -84,7 +84,7 @@ sheet_reads note rows room m w =
     record { reads = read_rows (sheet_of note rows) n (length note) true taken (ap (kinds_known n) same ∙ w.kinds); note_back = note_of note rows; rows_back = same }
 
 -- Where m bytes are written into a room, these read back as the note and the rows.
-pub reads_back : (note rows out : List ℕ) (m : ℕ) → write_of note rows (length out) ≡ Length m → ReadsAs (take m (room_of note rows out)) note rows
+pub reads_back : (note rows out : List ℕ) (m : ℕ) → write_of note rows (length out) ≡ Ok m → ReadsAs (take m (room_of note rows out)) note rows
 reads_back note rows out m e =
     let w = written note rows (length out) m e in
     subst (λ (l : List ℕ). ReadsAs l note rows) (sym (sheet_in_front note rows out m e)) (sheet_reads note rows (length out) m w)
@@ -107,7 +107,7 @@ tail_words s t e b =
         u32_bytes_at s (t + i) (omega arith) b ∙ ap (λ (k : ℕ). u32_bytes (u32_at s (t + i)) ++ drop k s) r
 
 -- the trailer that is read is the one that is written
-trailer_again : (s : List ℕ) (count start : ℕ) → Bytes s → trailer_of s ≡ Rows count start → trailer_bytes count (version_for count) ≡ drop (length s - 16) s
+trailer_again : (s : List ℕ) (count start : ℕ) → Bytes s → trailer_of s ≡ rows_at count start → trailer_bytes count (version_for count) ≡ drop (length s - 16) s
 trailer_again s count start b e =
     let t = length s - 16 in
     let w = trailer_rows s count start e in
@@ -129,8 +129,8 @@ parts s last count start t e w =
     ∙ take-append-drop start s
 
 -- A sheet that reads, written again from its note and rows into a room that is long enough, stands there byte for byte.
-pub writes_again : (s out : List ℕ) (count start : ℕ) → Bytes s → read_of s ≡ Rows count start → length s ≤ length out
-    → (let note = take start s in let rows = rows_of s count start in (write_of note rows (length out) ≡ Length (length s)) × (room_of note rows out ≡ s ++ drop (length s) out))
+pub writes_again : (s out : List ℕ) (count start : ℕ) → Bytes s → read_of s ≡ rows_at count start → length s ≤ length out
+    → (let note = take start s in let rows = rows_of s count start in (write_of note rows (length out) ≡ Ok (length s)) × (room_of note rows out ≡ s ++ drop (length s) out))
 unfolding sheet_of
 writes_again s out count start b e h =
     let i = read_inv s count start e in
@@ -144,7 +144,7 @@ writes_again s out count start b e h =
     let n : length rows / 24 ≡ count = omega arith in
     let a : allowed (u32_at s (t + 8)) count ≡ true = ap (allowed (u32_at s (t + 8))) (sym w.0) ∙ w.1.few in
     let v : version_for count ≡ u32_at s (t + 8) = version_one (u32_at s (t + 8)) count w.1.known_version a in
-    let r : write_of note rows (length out) ≡ Length (length s) =
+    let r : write_of note rows (length out) ≡ Ok (length s) =
     writes note rows (length out) (length s)
     (record {
       few = ap (λ (k : ℕ). allowed (version_for k) k) n ∙ ap (λ (k : ℕ). allowed k count) v ∙ a;

@@ -3,88 +3,50 @@
 
 ghost use Rattle.std.specs.Prelude.{◌≡◌, ◌<◌, length};
 ghost use Rattle.text.specs.Room.{placed};
-ghost use Rattle.sheet_writer.specs.Write.{number_of, length_of, trailer_bytes, sheet_of, write_of, room_of};
+ghost use Rattle.words.specs.Words.{u32_bytes};
+ghost use Rattle.sheet_writer.specs.Write.{length_of, sheet_of, write_of, room_of};
 
+use refusals::Refusal;
 use sheet::kinds_known;
 use versions::{allowed, version_for};
 
-// What writing a sheet answers: its length, or a refusal's number.
-#[derive(Clone, Copy)]
-pub enum Writing {
-    Length(usize),
-    Refused(u64),
-}
-
-impl Writing {
-    // The refusal's number, 0 if there is none.
-    pub fn number(self) -> u64
-        ensures { result ≡ number_of self }
-    {
-        match self {
-            Writing::Length(_) => 0,
-            Writing::Refused(number) => number,
-        }
-    }
-
-    // The sheet's length: 0 where it is refused.
-    pub fn length(self) -> usize
-        ensures { result ≡ length_of self }
-    {
-        match self {
-            Writing::Length(length) => length,
-            Writing::Refused(_) => 0,
-        }
-    }
-}
-
-// The trailer of so many rows, in a version.
-fn trailer_bytes(count: usize, version: u64) -> [u8; 16]
-    requires { count < 4294967296 }
-    ensures { result ≡ trailer_bytes count version }
+// The sheet's length: 0 where it is refused.
+pub fn length(writing: Result<usize, Refusal>) -> usize
+    ensures { result ≡ length_of writing }
 {
-    let back = 24 * count;
-    [
-        (count % 256) as u8,
-        (count / 256 % 256) as u8,
-        (count / 65536 % 256) as u8,
-        (count / 16777216 % 256) as u8,
-        (back % 256) as u8,
-        (back / 256 % 256) as u8,
-        (back / 65536 % 256) as u8,
-        (back / 16777216 % 256) as u8,
-        (version % 256) as u8,
-        (version / 256 % 256) as u8,
-        (version / 65536 % 256) as u8,
-        (version / 16777216 % 256) as u8,
-        0,
-        0,
-        0,
-        0,
-    ]
+    writing.unwrap_or(0)
+}
+
+// The four bytes of a u32.
+fn u32_bytes(x: u64) -> [u8; 4]
+    requires { x < 4294967296 }
+    ensures { result ≡ u32_bytes x }
+{
+    (x as u32).to_le_bytes()
 }
 
 // What is answered for a note, rows' bytes and a room of so many bytes.
-fn judge(note: &[u8], rows: &[u8], room: usize) -> Writing
+fn judge(note: &[u8], rows: &[u8], room: usize) -> Result<usize, Refusal>
     ensures { result ≡ write_of note.now rows.now room }
 {
     let count = rows.len() / 24;
     if !allowed(version_for(count), count) {
-        return Writing::Refused(22);
+        return Err(Refusal::RowCount);
     }
     if note.len() > 4096 {
-        return Writing::Refused(23);
+        return Err(Refusal::Layout);
     }
     if rows.len() % 24 != 0 {
-        return Writing::Refused(23);
+        return Err(Refusal::Layout);
     }
     if !kinds_known(rows, count) {
-        return Writing::Refused(24);
+        return Err(Refusal::RowKind);
     }
     let length = note.len() + rows.len() + 16;
     if length > room {
-        return Writing::Refused(25);
+        return Err(Refusal::ShortRoom);
     }
-    Writing::Length(length)
+    Ok(length)
 }
 
 // Puts the note, the rows and their trailer one behind the other at the front of the room.
@@ -93,24 +55,24 @@ fn fill(note: &[u8], rows: &[u8], out: &mut [u8])
     ensures { out.new ≡ placed out.old 0 (sheet_of note.now rows.now) }
 {
     let count = rows.len() / 24;
-    let last = trailer_bytes(count, version_for(count));
+    let last = [
+        u32_bytes(count as u64),
+        u32_bytes(24 * count as u64),
+        u32_bytes(version_for(count)),
+        u32_bytes(0),
+    ];
     let at = text::bytes(note, out, 0);
     let at = text::bytes(rows, out, at);
-    text::bytes(&last, out, at);
+    text::bytes(last.as_flattened(), out, at);
 }
 
 // Writes the sheet of a note and rows' bytes at the front of the room and nothing behind it, or
-// refuses and writes nothing: 22 too many whole rows; 23 note too long, or a row cut short; 24 a
-// kind outside 1 to 4; 25 room too short.
-pub fn write(note: &[u8], rows: &[u8], out: &mut [u8]) -> Writing
+// refuses and writes nothing: `RowCount` too many whole rows; `Layout` note too long, or a row cut
+// short; `RowKind` a kind outside 1 to 4; `ShortRoom` room too short.
+pub fn write(note: &[u8], rows: &[u8], out: &mut [u8]) -> Result<usize, Refusal>
     ensures { (result ≡ write_of note.now rows.now (length out.old)) × (out.new ≡ room_of note.now rows.now out.old) }
 {
-    let w = judge(note, rows, out.len());
-    match w {
-        Writing::Refused(number) => Writing::Refused(number),
-        Writing::Length(length) => {
-            fill(note, rows, out);
-            Writing::Length(length)
-        }
-    }
+    let length = judge(note, rows, out.len())?;
+    fill(note, rows, out);
+    Ok(length)
 }

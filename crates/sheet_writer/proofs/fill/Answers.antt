@@ -1,17 +1,24 @@
 -- `sheet_writer::fill` meets its contract: three pieces, one behind the other, are the sheet. Assumes nothing.
-use mathlib.Core.Path.{ap, ◌∙◌}
+use mathlib.Core.Path.{◌≡◌, refl, ap, ◌∙◌}
 use mathlib.Core.List.{List, ◌++◌}
 use Prim.Native.Nat.{ℕ, ◌/◌}
 use lib.ListN.{length}
+use native.Mathlib.Omega.{arith}
+use Rattle.versions.specs.Versions.{version_for}
+use Rattle.versions.proofs.VersionLaws.{version_small}
 use Rattle.text.proofs.Pieces.{then, said}
 use Rattle.sheet_writer.specs.Write.{trailer_bytes, sheet_of}
 use Rattle.sheet_writer.proofs.fill.Goals as goal
+
+pub u32_bytes-requires-3 : goal.u32_bytes-requires-3
+u32_bytes-requires-3 c = omega (arith, version_small (length c.args.rows.now / 24))
 
 pub returns : goal.returns
 unfolding sheet_of
 returns c =
     let a = c.args in
     let n = length a.rows.now / 24 in
-    (said
-    (ap (λ (l : List ℕ). a.note.now ++ a.rows.now ++ l) (c.trailer_bytes-last.ensures ∙ ap (trailer_bytes n) c.version_for.ensures))
-    (then (then c.bytes-at.ensures c.bytes-at-2.ensures) c.bytes.ensures)).room
+    let last : c.as_flattened.result.now ≡ trailer_bytes n (version_for n) =
+    c.as_flattened.ensures.value
+    ∙ rw (c.u32_bytes.ensures, c.u32_bytes-2.ensures, c.u32_bytes-3.ensures, c.u32_bytes-4.ensures, c.version_for.ensures) refl in
+    (said (ap (λ (l : List ℕ). a.note.now ++ a.rows.now ++ l) last) (then (then c.bytes-at.ensures c.bytes-at-2.ensures) c.bytes.ensures)).room

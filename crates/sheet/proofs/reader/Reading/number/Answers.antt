@@ -1,9 +1,0 @@
--- `sheet::reader::Reading::number` meets its contract, case by case. Assumes nothing.
-use mathlib.Core.Path.{refl}
-use Rattle.sheet.proofs.reader.Reading.number.Goals as goal
-
-pub returns-in-Rows : goal.returns-in-Rows
-returns-in-Rows c = rw c.in-Rows.is refl
-
-pub returns-in-Refused : goal.returns-in-Refused
-returns-in-Refused c = rw c.in-Refused.is refl
