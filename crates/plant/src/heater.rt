@@ -56,32 +56,32 @@ fn heat() -> f64 {
 }
 
 // What the heater asks of a place as long as it waits for states.
-pub(crate) fn asks(heater: Heater, place: Place) -> Asks {
+pub(crate) fn asks(heater: Heater, place: Place) -> Option<Asks> {
     if heater.waits_for == 0 {
-        return Asks::Nothing;
+        return None;
     }
     match place {
-        Place::WaterIn => Asks::Nothing,
-        Place::BledSteam => Asks::ByEnthalpy {
+        Place::WaterIn => None,
+        Place::BledSteam => Some(Asks::ByEnthalpy {
             p: BLED_P,
             h: STEAM_H,
-        },
-        Place::Drain => Asks::ByEnthalpy {
+        }),
+        Place::Drain => Some(Asks::ByEnthalpy {
             p: BLED_P,
             h: DRAIN_H,
-        },
-        Place::WaterOut => Asks::ByEnthalpy {
+        }),
+        Place::WaterOut => Some(Asks::ByEnthalpy {
             p: WATER_P,
             h: heater.h_in + heat() / WATER_FLOW,
-        },
+        }),
     }
 }
 
 // What the heater gives off at a place: heat, to the water out.
-fn given(place: Place) -> Output {
+fn given(place: Place) -> Option<Output> {
     match place {
-        Place::WaterOut => Output::Heat(heat() / model::KW_IN_MW),
-        _ => Output::Nothing,
+        Place::WaterOut => Some(Output::Heat(heat() / model::KW_IN_MW)),
+        _ => None,
     }
 }
 

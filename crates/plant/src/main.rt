@@ -11,7 +11,7 @@ mod seats;
 mod turbine;
 
 use crate::seats::{Call, Seats, Step};
-use desk::{Answer, Desk, Outcome};
+use desk::{Desk, Outcome};
 use std::io;
 
 // How many rounds settle the turbine, one for each of its queries. The heater is settled in the first.
@@ -33,7 +33,7 @@ struct Plant {
     seats: Seats,
 }
 
-// Makes a call on the desk. `Idle` stands for the answer where there is none to make.
+// Makes a call on the desk.
 fn made(desk: Desk, call: Call) -> Outcome {
     match call {
         Call::Post {
@@ -44,10 +44,6 @@ fn made(desk: Desk, call: Call) -> Outcome {
             number,
         } => desk::post(desk, caller, kind, p, y, number),
         Call::Collect { caller, ticket } => desk::collect(desk, caller, ticket),
-        Call::Nothing => Outcome {
-            answer: Answer::Idle,
-            desk,
-        },
     }
 }
 
@@ -59,19 +55,17 @@ fn turns(plant: Plant, n: u64) -> Plant {
     Plant { desk, seats }
 }
 
-// One call for each seat in turn.
+// One call for each seat in turn, where there is one to make.
 fn calls(plant: Plant, step: Step, room: &mut [u8], lines: &mut [u8]) -> Plant {
     let mut d = plant.desk;
     let mut seats = plant.seats;
-    let mut i = 0usize;
-    while i < 4 {
-        let o = made(d, seats::call_for(seats, i, step));
-        let e = o.desk;
-        let answer = o.answer;
-        d = e;
-        let kept = seats::ticketed(seats, i, answer);
-        seats = seats::answered(kept, i, answer, room, lines);
-        i += 1;
+    for i in 0..4 {
+        if let Some(call) = seats::call_for(seats, i, step) {
+            let o = made(d, call);
+            d = o.desk;
+            let kept = seats::ticketed(seats, i, o.answer);
+            seats = seats::answered(kept, i, o.answer, room, lines);
+        }
     }
     Plant { desk: d, seats }
 }
@@ -153,13 +147,10 @@ fn run(
         desk: desk::new_desk(),
         seats: start,
     };
-    let mut k = 0u64;
-    while k < ROUNDS {
+    for _ in 0..ROUNDS {
         let then = plant.seats;
         plant = round(plant, pace, room, lines);
-        let now = plant.seats;
-        show_since(rt, then, now, room, lines)?;
-        k += 1;
+        show_since(rt, then, plant.seats, room, lines)?;
     }
     Ok(())
 }

@@ -34,7 +34,7 @@ pub(crate) enum Step {
     Collect(u64),
 }
 
-// A call on the desk, or that there is none to make.
+// A call on the desk.
 #[derive(Clone, Copy)]
 pub(crate) enum Call {
     Post {
@@ -48,14 +48,6 @@ pub(crate) enum Call {
         caller: u64,
         ticket: u64,
     },
-    Nothing,
-}
-
-// What an answer of the desk's tells a model.
-#[derive(Clone, Copy)]
-enum Heard {
-    Known(Known),
-    Nothing,
 }
 
 // The models on their seats, with no ticket yet.
@@ -94,7 +86,7 @@ fn place(seat: usize) -> Place {
 }
 
 // What the model on a seat asks.
-fn asks(seats: Seats, seat: usize) -> Asks {
+fn asks(seats: Seats, seat: usize) -> Option<Asks> {
     match seat {
         0 => {
             let turbine = seats.turbine;
@@ -124,36 +116,30 @@ fn post(caller: u64, asks: Asks, number: u64) -> Call {
             y: s,
             number,
         },
-        Asks::Nothing => Call::Nothing,
-    }
-}
-
-// The collect of what is asked.
-fn collect(caller: u64, asks: Asks, ticket: u64) -> Call {
-    match asks {
-        Asks::Nothing => Call::Nothing,
-        _ => Call::Collect { caller, ticket },
     }
 }
 
 // The call that is to be made for a seat: none where nothing is asked.
-pub(crate) fn call_for(seats: Seats, seat: usize, step: Step) -> Call
+pub(crate) fn call_for(seats: Seats, seat: usize, step: Step) -> Option<Call>
     requires { seat < 4 }
 {
-    let asks = asks(seats, seat);
+    let asks = asks(seats, seat)?;
     match step {
-        Step::Post => post(caller(seat), asks, number(seat)),
+        Step::Post => Some(post(caller(seat), asks, number(seat))),
         Step::Collect(halvings) => {
             if halvings != number(seat) {
-                return Call::Nothing;
+                return None;
             }
-            collect(caller(seat), asks, seats.tickets[seat])
+            Some(Call::Collect {
+                caller: caller(seat),
+                ticket: seats.tickets[seat],
+            })
         }
     }
 }
 
 // What an answer tells: the state or the refusal's number, or nothing that concerns a model.
-fn heard_of(answer: Answer) -> Heard {
+fn heard_of(answer: Answer) -> Option<Known> {
     match answer {
         Answer::State {
             settled,
@@ -162,10 +148,10 @@ fn heard_of(answer: Answer) -> Heard {
             hi: _,
         } => {
             let single = settled.single;
-            Heard::Known(Known::State(single))
+            Some(Known::State(single))
         }
-        Answer::Refused(number) => Heard::Known(Known::Refused(number)),
-        _ => Heard::Nothing,
+        Answer::Refused(number) => Some(Known::Refused(number)),
+        _ => None,
     }
 }
 
@@ -174,9 +160,8 @@ pub(crate) fn ticketed(seats: Seats, seat: usize, answer: Answer) -> Seats
     requires { seat < 4 }
 {
     let mut after = seats;
-    match answer {
-        Answer::Ticket(number) => after.tickets[seat] = number,
-        _ => {}
+    if let Answer::Ticket(number) = answer {
+        after.tickets[seat] = number;
     }
     after
 }
@@ -201,9 +186,8 @@ pub(crate) fn answered(
     room: &mut [u8],
     lines: &mut [u8],
 ) -> Seats {
-    let heard = heard_of(answer);
-    match heard {
-        Heard::Known(known) => told(seats, seat, known, room, lines),
-        Heard::Nothing => seats,
+    match heard_of(answer) {
+        Some(known) => told(seats, seat, known, room, lines),
+        None => seats,
     }
 }

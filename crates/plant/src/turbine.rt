@@ -92,21 +92,21 @@ fn pressure_behind(stage: u64) -> f64 {
 
 // What the turbine asks next: where an ideal expansion would end, at the entropy before the stage, and
 // then the state behind the stage, at the enthalpy that the real expansion ends at.
-pub(crate) fn asks(turbine: Turbine) -> Asks {
+pub(crate) fn asks(turbine: Turbine) -> Option<Asks> {
     if !turbine.runs {
-        return Asks::Nothing;
+        return None;
     }
     let place = place_after(turbine.settled);
     match place {
-        Place::Inlet => Asks::Nothing,
-        Place::IdealEnd(stage) => Asks::ByEntropy {
+        Place::Inlet => None,
+        Place::IdealEnd(stage) => Some(Asks::ByEntropy {
             p: pressure_behind(stage),
             s: turbine.s,
-        },
-        Place::StageEnd(stage) => Asks::ByEnthalpy {
+        }),
+        Place::StageEnd(stage) => Some(Asks::ByEnthalpy {
             p: pressure_behind(stage),
             h: turbine.h_out,
-        },
+        }),
     }
 }
 
@@ -117,10 +117,10 @@ fn stage_power(turbine: Turbine, single: Single) -> f64 {
 }
 
 // What the turbine gives off at a place: shaft power, behind a stage.
-fn given(turbine: Turbine, place: Place, single: Single) -> Output {
+fn given(turbine: Turbine, place: Place, single: Single) -> Option<Output> {
     match place {
-        Place::StageEnd(_) => Output::ShaftPower(stage_power(turbine, single)),
-        _ => Output::Nothing,
+        Place::StageEnd(_) => Some(Output::ShaftPower(stage_power(turbine, single))),
+        _ => None,
     }
 }
 
@@ -169,7 +169,13 @@ fn counted(turbine: Turbine) -> Turbine {
 }
 
 // Writes a line of the turbine's: the title of the place, then what is known of it.
-fn line(turbine: Turbine, place: Place, known: Known, given: Output, room: &mut [u8]) -> usize {
+fn line(
+    turbine: Turbine,
+    place: Place,
+    known: Known,
+    given: Option<Output>,
+    room: &mut [u8],
+) -> usize {
     let n = positions::title(place, room, turbine.next_line);
     model::told(known, given, room, n)
 }
@@ -182,7 +188,7 @@ fn refused(turbine: Turbine, place: Place, number: u64, room: &mut [u8]) -> Turb
         turbine,
         place,
         Known::Refused(number),
-        Output::Nothing,
+        None,
         room,
     );
     after

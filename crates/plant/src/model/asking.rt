@@ -2,13 +2,12 @@
 // goes, who else asks and when it is settled is nothing that a model is told.
 use states::Single;
 
-// What a model asks next: the state at p in MPa and h in kJ/kg, or at p and s in kJ/(kg K); or nothing,
-// since it has all that it needs or was refused.
+// What a model asks next: the state at p in MPa and h in kJ/kg, or at p and s in kJ/(kg K). It asks
+// nothing once it has all that it needs or was refused.
 #[derive(Clone, Copy)]
 pub(crate) enum Asks {
     ByEnthalpy { p: f64, h: f64 },
     ByEntropy { p: f64, s: f64 },
-    Nothing,
 }
 
 // What a model is told: the state that it asked for, of one phase, or the refusal's number.

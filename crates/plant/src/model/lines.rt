@@ -10,7 +10,6 @@ pub(crate) const KW_IN_MW: f64 = 1000.0;
 // What a model gives off at a place, in MW.
 #[derive(Clone, Copy)]
 pub(crate) enum Output {
-    Nothing,
     ShaftPower(f64),
     Heat(f64),
 }
@@ -33,16 +32,16 @@ pub(crate) fn megawatts(what: &[u8], x: f64, out: &mut [u8], at: usize) -> usize
     text::bytes(b"MW\n", out, n)
 }
 
-fn ending(given: Output, out: &mut [u8], at: usize) -> usize {
+fn ending(given: Option<Output>, out: &mut [u8], at: usize) -> usize {
     match given {
-        Output::Nothing => text::bytes(b"\n", out, at),
-        Output::ShaftPower(x) => megawatts(b", shaft power ", x, out, at),
-        Output::Heat(x) => megawatts(b", heat ", x, out, at),
+        None => text::bytes(b"\n", out, at),
+        Some(Output::ShaftPower(x)) => megawatts(b", shaft power ", x, out, at),
+        Some(Output::Heat(x)) => megawatts(b", heat ", x, out, at),
     }
 }
 
 // The line of a place behind its title: the state there and what is given off, or the refusal's number.
-pub(crate) fn told(known: Known, given: Output, out: &mut [u8], at: usize) -> usize {
+pub(crate) fn told(known: Known, given: Option<Output>, out: &mut [u8], at: usize) -> usize {
     match known {
         Known::State(a) => {
             let n = properties(a, out, at);
