@@ -7,24 +7,9 @@
 
 use std::io;
 
-// A byte as a signed one.
+// The low byte as a signed one.
 fn signed(b: u64) -> i16 {
-    let low = b % 256;
-    if low < 128 {
-        low as i16
-    } else {
-        low as i16 - 256
-    }
-}
-
-fn print_signed(rt: &impl Print, b: u64) -> io::Result<()> {
-    let low = b % 256;
-    if low < 128 {
-        rt.print(low)
-    } else {
-        streams::write_all(rt, b"-")?;
-        rt.print(256 - low)
-    }
+    ((b % 256) as u8).cast_signed() as i16
 }
 
 // A number by its 16 hexadecimal digits, or nan: a NaN has no digits of its own.
@@ -40,7 +25,7 @@ fn print_float(rt: &impl Print, x: f64) -> io::Result<()> {
 fn print_line(rt: &impl Print, x: f64, k: u64) -> io::Result<()> {
     print_float(rt, x)?;
     streams::write_all(rt, b" ")?;
-    print_signed(rt, k)?;
+    rt.print(signed(k))?;
     streams::write_all(rt, b" ")?;
     print_float(rt, arith::power(x, signed(k)))?;
     streams::write_all(rt, b" ")?;
@@ -57,15 +42,9 @@ fn print_line(rt: &impl Print, x: f64, k: u64) -> io::Result<()> {
 }
 
 fn print_lines(rt: &impl Print, s: &[u8]) -> io::Result<()> {
-    let n = s.len() / 16;
-    let mut k = 0usize;
-    while k < n {
-        print_line(
-            rt,
-            arith::float_of(words::word(s, 2 * k)),
-            words::word(s, 2 * k + 1),
-        )?;
-        k += 1;
+    for record in s.chunks_exact(16) {
+        let x = arith::float_of(words::word(record, 0));
+        print_line(rt, x, words::word(record, 1))?;
     }
     Ok(())
 }

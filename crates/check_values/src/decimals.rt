@@ -12,16 +12,14 @@ pub(crate) struct Power {
 
 // The least k, from -3 up to 6, with which x is below 10^k. Every check value is below 10^4.
 pub(crate) fn power_of(x: f64, unit: f64) -> Power {
-    let mut steps = 0u64;
     let mut scale = 1000.0 * unit;
-    while steps < 9 {
+    for steps in 0..9 {
         if x * scale < unit {
-            break;
+            return Power { steps, scale };
         }
         scale = scale / 10.0;
-        steps += 1;
     }
-    Power { steps, scale }
+    Power { steps: 9, scale }
 }
 
 // x rounded to a whole number; 0, which is no DIGITS of a paper, for a NaN and what no u64 holds.
@@ -45,10 +43,7 @@ pub(crate) fn print_argument(rt: &impl Print, before: u8, x: f64) -> io::Result<
     print_byte(rt, before)?;
     let mut n = nearest_whole(x * 10000000.0);
     let mut unit = 10_000_000u64;
-    while 10 <= unit {
-        if n % 10 != 0 {
-            break;
-        }
+    while 10 <= unit && n % 10 == 0 {
         n = n / 10;
         unit = unit / 10;
     }
