@@ -9,32 +9,22 @@ use crate::opening::note;
 use row_lines::{quotient_line, refused};
 use sheet::{Point, Reading};
 
-// A byte as a property's number.
-fn wide(x: u8) -> u64
-    ensures { result ≡ x }
-{
-    x as u64
-}
-
 // Writes a row's line for each triple of the note in turn.
 fn lines(number: u64, row: Point, note: &[u8], out: &mut [u8]) -> usize
     ensures { Written out.old 0 (quotient_lines number row note.now) out.new result }
 {
-    let n = note.len() / 3;
     let mut p = 0;
-    let mut k = 0;
-    while k < n {
+    for k in 0..note.len() / 3 {
         let i = 3 * k;
         p = quotient_line(
             number,
             row,
-            wide(note[i]),
-            wide(note[i + 1]),
-            wide(note[i + 2]),
+            u64::from(note[i]),
+            u64::from(note[i + 1]),
+            u64::from(note[i + 2]),
             out,
             p,
         );
-        k += 1;
     }
     p
 }

@@ -44,10 +44,8 @@ pub(crate) fn lines(
     ensures { Written out.old at (joined (line_at listing sheet.now start) n) out.new result }
 {
     let mut p = at;
-    let mut k = 0;
-    while k < n {
+    for k in 0..n {
         p = line(listing, k as u64 + 1, sheet::row(sheet, start, k), out, p);
-        k += 1;
     }
     p
 }

@@ -39,14 +39,13 @@ fn print(rt: &impl Print, sheet: &[u8]) -> io::Result<usize>
     let reading = listing::triples(sheet);
     let end = head(reading, &mut room);
     streams::write_all(rt, &room[..end])?;
-    let count = reading.count();
-    let mut k = 0;
-    while k < count {
+    let mut listed = 0;
+    for k in 0..reading.count() {
         let end = row(sheet, reading, k, &mut room);
         streams::write_all(rt, &room[..end])?;
-        k += 1;
+        listed += 1;
     }
-    Ok(k)
+    Ok(listed)
 }
 
 fn main(rt: HostRuntime) -> io::Result<()> {

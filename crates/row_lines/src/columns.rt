@@ -60,11 +60,8 @@ pub(crate) fn values(a: Answer, out: &mut [u8], at: usize) -> usize
 {
     let values = reply::values(a);
     let mut p = at;
-    let mut k = 0;
-    while k < 8 {
-        let v = values[k];
-        p = text::column(cell(v), b' ', out, p);
-        k += 1;
+    for k in 0..8 {
+        p = text::column(cell(values[k]), b' ', out, p);
     }
     let x = values[8];
     text::column(cell(x), b'\n', out, p)

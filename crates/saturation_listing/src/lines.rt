@@ -24,11 +24,9 @@ pub(crate) fn lines(input: &[u8], n: usize, out: &mut [u8], at: usize) -> usize
     ensures { Written out.old at (joined (line_at input.now) n) out.new result }
 {
     let mut p = at;
-    let mut k = 0;
-    while k < n {
+    for k in 0..n {
         let t = arith::float_of(words::word(input, k));
         p = line(k as u64 + 1, t, out, p);
-        k += 1;
     }
     p
 }

@@ -1,4 +1,4 @@
--- `quotients::print` is safe and lists every row: the place behind each text is within the room. The measure is how many rows are left. Assumes nothing.
+-- `quotients::print` is safe and lists every row: the place behind each text is within the room, and k rows are listed before turn k. Assumes nothing.
 use mathlib.Core.Path.{ap, ◌∙◌}
 use native.Mathlib.Nat.{le_antisymm}
 use Rattle.text.proofs.Pieces.{ends}
@@ -23,4 +23,4 @@ slice_bounds-write_all-end-in-loop-k g c = ends c.row-end.ensures
 
 pub returns : goal.returns
 returns g c =
-    le_antisymm c.loop-k.invariant c.loop-k-test.false ∙ c.count-count.ensures ∙ ap count_of c.triples-reading.ensures
+    c.loop-k.invariant ∙ le_antisymm c.loop-k.auto.k-end c.loop-k-test.false ∙ c.count-k-end.ensures ∙ ap count_of c.triples-reading.ensures

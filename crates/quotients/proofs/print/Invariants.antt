@@ -1,9 +1,6 @@
--- `quotients::print` is safe and lists every row: the place behind each text is within the room. The measure is how many rows are left. Assumes nothing.
-use Prim.Native.Nat.{◌-◌, ◌≤◌}
+-- `quotients::print` is safe and lists every row: the place behind each text is within the room, and k rows are listed before turn k. Assumes nothing.
+use mathlib.Core.Path.{◌≡◌}
 use Rattle.quotients.proofs.print.Given as goal
 
 abbrev pub invariant-loop-k : goal.invariant-loop-k
-invariant-loop-k g l = l.k ≤ l.count
-
-abbrev pub decreases-loop-k : goal.decreases-loop-k
-decreases-loop-k g l = l.count - l.k
+invariant-loop-k g l = l.listed ≡ l.k

@@ -19,25 +19,23 @@ written : (end : ℕ) (x : Cell) (u v : Value) → x ≡ cell_of u → u ≡ v �
 written end x u v e q = ap (λ (y : Cell). column_of y ++ end ∷ []) (e ∙ ap cell_of q)
 
 pub loop-k-init : goal.loop-k-init
-loop-k-init c = (omega arith, begun _ _ _)
+loop-k-init c = begun _ _ _
 
 pub loop-k-preserved : goal.loop-k-preserved
 loop-k-preserved c =
     let values = c.values-values in
-    let k = c.loop-k.k in (
-      omega arith,
-      turned (value_column values.result blank) k c.loop-k.invariant.1
-          (said (written blank _ _ _ c.cell.ensures (value_at _ c.args.a k _ Missing values.ensures (omega arith))) c.column-p.ensures),
-    )
+    let k = c.loop-k.k in
+    turned (value_column values.result blank) k c.loop-k.invariant
+    (said (written blank _ _ _ c.cell.ensures (value_at _ c.args.a k _ Missing values.ensures (omega arith))) c.column-p.ensures)
 
 pub shape_of-out : goal.shape_of-out
 shape_of-out c =
-    kept (then c.loop-k.invariant.1 c.column.ensures)
+    kept (then c.loop-k.invariant c.column.ensures)
 
 pub returns : goal.returns
 unfolding value_columns
 returns c =
     let values = c.values-values in
     said (ap value_columns values.ensures)
-    (then (ended (value_column values.result blank) c.loop-k.invariant.0 c.loop-k-test.false c.loop-k.invariant.1)
+    (then (ended (value_column values.result blank) c.loop-k.auto.k-end c.loop-k-test.false c.loop-k.invariant)
     (said (written newline _ _ _ c.cell-2.ensures (value_at _ c.args.a 8 _ Missing values.ensures (omega arith))) c.column.ensures))

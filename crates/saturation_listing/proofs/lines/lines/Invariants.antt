@@ -1,13 +1,9 @@
--- `saturation_listing::lines::lines` meets its contract. The invariant: the lines of the first k words are written. The measure is how many are left.
+-- `saturation_listing::lines::lines` meets its contract. The invariant: the lines of the first k words are written.
 -- Assumes nothing.
-use Prim.Native.Nat.{◌-◌, ◌≤◌}
 use Rattle.text.specs.Room.{Written}
 use Rattle.text.specs.Texts.{joined}
 use Rattle.saturation_listing.specs.Listing.{line_at}
 use Rattle.saturation_listing.proofs.lines.lines.Given as goal
 
 abbrev pub invariant-loop-k : goal.invariant-loop-k
-invariant-loop-k l = (l.k ≤ l.n) × Written l.initial.out l.at (joined (line_at l.input) l.k) l.out l.p
-
-abbrev pub decreases-loop-k : goal.decreases-loop-k
-decreases-loop-k l = l.n - l.k
+invariant-loop-k l = Written l.initial.out l.at (joined (line_at l.input) l.k) l.out l.p
