@@ -5,7 +5,7 @@ use mathlib.Core.List.{List, []}
 use native.Mathlib.Omega.{arith}
 use lib.ListN.{length, length-append}
 use Rattle.text.specs.Texts.{blank, number_column}
-use Rattle.text.specs.declared.Cell.TheVariants.{Value}
+use Rattle.std.proofs.Common.{Some}
 use Rattle.text.proofs.Lengths.{digits, column_short, joined_short}
 use Rattle.ledger.specs.Rows.{row, counted}
 use Rattle.ledger.specs.declared.Row.{Row}
@@ -42,12 +42,12 @@ row_short i r =
       digits r.ticket,
       digits r.kind,
       digits r.region,
-      column_short (Value r.p),
-      column_short (Value r.y),
+      column_short (Some r.p),
+      column_short (Some r.y),
       digits r.number,
       digits r.halvings,
-      column_short (Value r.lo),
-      column_short (Value r.hi),
+      column_short (Some r.lo),
+      column_short (Some r.hi),
     )))
 
 pub shown_short : (number : ℕ) (d : Desk) → length (shown_lines number d) ≤ 8192

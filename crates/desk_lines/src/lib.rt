@@ -5,7 +5,6 @@ ghost use Rattle.text.specs.Room.{Written};
 ghost use Rattle.desk_lines.specs.Lines.{count_columns, desk_line, row_line, shown_lines};
 
 use ledger::{Desk, Row};
-use text::Cell;
 
 // Writes the eight counts of a desk, which end its line.
 fn counts(d: Desk, out: &mut [u8], at: usize) -> usize
@@ -42,12 +41,12 @@ fn row_line(i: u64, r: Row, out: &mut [u8], at: usize) -> usize
     let at = text::decimal(r.ticket, b' ', out, at);
     let at = text::decimal(r.kind, b' ', out, at);
     let at = text::decimal(r.region, b' ', out, at);
-    let at = text::column(Cell::Value(r.p), b' ', out, at);
-    let at = text::column(Cell::Value(r.y), b' ', out, at);
+    let at = text::column(Some(r.p), b' ', out, at);
+    let at = text::column(Some(r.y), b' ', out, at);
     let at = text::decimal(r.number, b' ', out, at);
     let at = text::decimal(r.halvings, b' ', out, at);
-    let at = text::column(Cell::Value(r.lo), b' ', out, at);
-    text::column(Cell::Value(r.hi), b'\n', out, at)
+    let at = text::column(Some(r.lo), b' ', out, at);
+    text::column(Some(r.hi), b'\n', out, at)
 }
 
 // Writes the desk: its pointer and counts, and a line for each row that is filled.

@@ -5,21 +5,21 @@ use native.Mathlib.Omega.{arith}
 use mathlib.Core.Path.{◌≡◌, refl}
 use mathlib.Core.Bool.{Bool, true, false, cond, not, ◌||◌}
 use mathlib.Core.List.{List, ◌++◌}
+use Rattle.std.proofs.Common.{Option, Some, None, Result, Ok, Err}
 use lib.Dec.{ltb, eqb}
 use lib.Ieee.{Float}
 use lib.ListN.{length, length-append}
 use borrow.Author.Tests.{lt-ltb, ltb-false}
 use Rattle.arith.specs.Bits.{finite, float_of}
 use Rattle.words.specs.Words.{word_of}
-use Rattle.cells.specs.Cells.{cell_of}
 use Rattle.text.specs.Texts.{decimal_from, decimal_of, joined}
 use Rattle.text.proofs.Lengths.{digits, column_short, joined_short}
 use Rattle.saturation_line.specs.Pressure.{ps_of}
 use Rattle.saturation_line.specs.declared.SaturationPressure.{SaturationPressure}
-use Rattle.saturation_line.specs.declared.SaturationPressure.TheVariants as Line
-use Rattle.saturation_reply.specs.Answers.{number_of, place_of, value_of}
-use Rattle.saturation_reply.specs.declared.SaturationAnswer.{SaturationAnswer}
-use Rattle.saturation_reply.specs.declared.SaturationAnswer.TheVariants.{UpTo623, Above623, Refused}
+use Rattle.saturation_line.specs.declared.SaturationPressure.TheVariants.{UpTo623, Above623}
+use Rattle.refusals.specs.Refusals.{number_in}
+use Rattle.refusals.specs.declared.Refusal.{Refusal}
+use Rattle.saturation_reply.specs.Answers.{place_of, value_of}
 use Rattle.saturation_reply.specs.Asked.{said_of, saturation_of}
 use Rattle.saturation_listing.specs.Listing.{longest, bad_length, bad_line, header, answer_line, temperature_line, line_at, saturation_text}
 
@@ -31,28 +31,27 @@ unfolding decimal_of decimal_from
 one_digit n h = rw (lt-ltb n 10 h) refl
 
 -- the refusal is 0, 1 or 3
-refusal_small : (t : Float) → number_of (saturation_of t) < 10
+refusal_small : (t : Float) → number_in (saturation_of t) < 10
 unfolding saturation_of
 refusal_small t = go (finite t) (ps_of t)
   where
-    go : (b : Bool) (s : SaturationPressure) → number_of (cond b (said_of s) (Refused 1)) < 10
-    go true (Line.UpTo623 p) = omega arith
-    go true (Line.Above623 p) = omega arith
-    go true Line.Nowhere = omega arith
+    go : (b : Bool) (s : Option SaturationPressure) → number_in (cond b (said_of s) (Err Refusal.NotFinite)) < 10
+    go true (Some p) = omega arith
+    go true None = omega arith
     go false s = omega arith
 
 -- the place is 0, 1 or 2
-place_small : (a : SaturationAnswer) → place_of a < 10
-place_small (UpTo623 p) = omega arith
-place_small (Above623 p) = omega arith
-place_small (Refused n) = omega arith
+place_small : (a : Result SaturationPressure Refusal) → place_of a < 10
+place_small (Ok (UpTo623 p)) = omega arith
+place_small (Ok (Above623 p)) = omega arith
+place_small (Err refusal) = omega arith
 
 line_short : (number : ℕ) (t : Float) → length (temperature_line number t) ≤ 42
 unfolding answer_line
 line_short number t =
     let a = saturation_of t in
     simp length-append
-    (omega (arith, digits number, one_digit (number_of a) (refusal_small t), one_digit (place_of a) (place_small a), column_short (cell_of (value_of a))))
+    (omega (arith, digits number, one_digit (number_in a) (refusal_small t), one_digit (place_of a) (place_small a), column_short (value_of a)))
 
 -- ---- the text
 

@@ -1,11 +1,12 @@
 -- The text of `saturation`: the saturation pressure at each of the temperatures that come in, as bytes of ASCII. Definitions only.
-use Rattle.std.specs.Prelude.{ℕ, ◌+◌, ◌/◌, ◌%◌, Bool, cond, not, ◌||◌, List, [], ◌∷◌, ◌++◌, ltb, eqb, Float, length}
+use Rattle.std.specs.Prelude.{ℕ, ◌+◌, ◌/◌, ◌%◌, Bool, cond, not, ◌||◌, List, [], ◌∷◌, ◌++◌, ltb, eqb, Float, length, Result}
 use Rattle.arith.specs.Bits.{float_of}
 use Rattle.words.specs.Words.{word_of}
 use Rattle.text.specs.Texts.{column_of, blank, newline, number_column, joined}
-use Rattle.cells.specs.Cells.{cell_of}
-use Rattle.saturation_reply.specs.Answers.{number_of, place_of, value_of}
-use Rattle.saturation_reply.specs.declared.SaturationAnswer.{SaturationAnswer}
+use Rattle.refusals.specs.Refusals.{number_in}
+use Rattle.refusals.specs.declared.Refusal.{Refusal}
+use Rattle.saturation_line.specs.declared.SaturationPressure.{SaturationPressure}
+use Rattle.saturation_reply.specs.Answers.{place_of, value_of}
 use Rattle.saturation_reply.specs.Asked.{saturation_of}
 
 -- ---- what comes in
@@ -29,9 +30,9 @@ unfoldable pub header : List ℕ
 header = 114 ∷ 111 ∷ 119 ∷ 32 ∷ 97 ∷ 110 ∷ 115 ∷ 119 ∷ 101 ∷ 114 ∷ 32 ∷ 112 ∷ 108 ∷ 97 ∷ 99 ∷ 101 ∷ 32 ∷ 112 ∷ newline ∷ []
 
 -- a row's number, the refusal, the place and p
-unfoldable pub answer_line : ℕ → SaturationAnswer → List ℕ
+unfoldable pub answer_line : ℕ → Result SaturationPressure Refusal → List ℕ
 answer_line number a =
-    number_column number blank ++ number_column (number_of a) blank ++ number_column (place_of a) blank ++ (column_of (cell_of (value_of a)) ++ newline ∷ [])
+    number_column number blank ++ number_column (number_in a) blank ++ number_column (place_of a) blank ++ (column_of (value_of a) ++ newline ∷ [])
 
 -- the line of a T in K
 abbrev pub temperature_line : ℕ → Float → List ℕ

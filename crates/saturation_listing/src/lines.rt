@@ -4,19 +4,17 @@ ghost use Rattle.text.specs.Room.{Written};
 ghost use Rattle.text.specs.Texts.{joined};
 ghost use Rattle.saturation_listing.specs.Listing.{temperature_line, line_at};
 
-use cells::cell;
-
 // Writes a row's number, the refusal, the place and p at T in K.
 fn line(number: u64, t: f64, out: &mut [u8], at: usize) -> usize
     ensures { Written out.old at (temperature_line number t) out.new result }
 {
     let a = saturation_reply::saturation(t);
-    let refusal = a.number();
-    let place = a.place();
+    let refusal = refusals::number(a);
+    let place = saturation_reply::place(a);
     let at = text::decimal(number, b' ', out, at);
     let at = text::decimal(refusal, b' ', out, at);
     let at = text::decimal(place, b' ', out, at);
-    text::column(cell(a.value()), b'\n', out, at)
+    text::column(saturation_reply::value(a), b'\n', out, at)
 }
 
 // Writes the lines of the first n words, numbered from 1.
