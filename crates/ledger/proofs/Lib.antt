@@ -5,3 +5,4 @@ pub mod Changes
 pub mod Good
 pub mod Pass
 pub mod Lists
+pub mod Told

@@ -181,14 +181,6 @@ module _ (f : ℕ → Bool) (k : ℕ) where
   pub count_no : f k ≡ false → count f (k + 1) ≡ count f k
   count_no e = omega (arith, ap (λ (n : ℕ). count f n) (add-one k), count_snoc f k, ap bit e)
 
-  -- none accepted so far, and then one
-  pub least_here : (n : ℕ) → k < n → count f k ≡ 0 → f k ≡ true → least f n ≡ k
-  least_here n l z e = least_is f n k l e (λ i m. not_some (f i) (λ q. absurd (omega (arith, some_counted f k i m q))))
-
--- none accepted up to the end
-pub least_end : (f : ℕ → Bool) (n : ℕ) → count f n ≡ 0 → least f n ≡ n
-least_end f n z = least_none f n (λ i l. not_some (f i) (λ q. absurd (omega (arith, some_counted f n i l q))))
-
 pub upto_fails : (f : ℕ → Bool) (n i : ℕ) → i < n → f i ≡ false → upto f n ≡ false
 upto_fails f n i l e = not_some (upto f n) (λ h. let g = upto_each f n h i l in let z : ◌≡◌ {A = ℕ} 0 1 = cc in absurd (omega arith))
 

@@ -1,6 +1,6 @@
 -- The desk as data: its rows, the tests by which one is looked for, and what makes a desk sound. Definitions only.
 -- Rows are numbered 0 to 31, callers 0 to 7.
-use Rattle.std.specs.Prelude.{ℕ, ◌+◌, ◌%◌, Bool, true, false, cond, not, ◌&&◌, List, leb, ltb, eqb, get_or, set, Float}
+use Rattle.std.specs.Prelude.{ℕ, ◌+◌, ◌%◌, Bool, true, false, Option, Some, None, cond, not, ◌&&◌, List, leb, ltb, eqb, get_or, set, Float}
 use Rattle.std.specs.Float.{binary64}
 use Rattle.std.specs.Float.Ieee.{of_bits}
 use Rattle.ledger.specs.declared.Row.{Row}
@@ -77,6 +77,10 @@ tally f d = count (λ i. f (row d i)) 32
 -- the first row at or after a place, round the end, that passes a test: how many places on it lies, and 32 where there is none
 unfoldable pub onward : (Row → Bool) → Desk → ℕ → ℕ
 onward f d from = least (λ k. f (row d ((from + k) % 32))) 32
+
+-- a row that lies so many places on; 32 is none
+abbrev pub found : ℕ → Option ℕ
+found k = cond (ltb k 32) (Some k) None
 
 -- the lowest row that passes a test, and 32 where there is none
 abbrev pub lowest : (Row → Bool) → Desk → ℕ

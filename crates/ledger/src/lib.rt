@@ -11,7 +11,8 @@ pub use sound::{TICKETS, is_nameable, is_sound};
 
 // A row. Filled, it holds a caller's ticket, the query of kind 2 (p,h) or 3 (p,s) at p in MPa and y in
 // kJ/kg or kJ/(kg K), the region fixed at the post, the number of halvings that the post named, how many
-// of them are done and the bracket lo to hi in K that they left.
+// of them are done and the bracket lo to hi in K that they left. No Option of a job, no enums for kind and
+// region: a desk may hold any bits, and whether these are right is `sound`, whose refusal is 15.
 #[derive(Clone, Copy)]
 pub struct Row {
     pub filled: bool,
@@ -35,7 +36,8 @@ pub struct Desk {
     pub pointer: u64,
 }
 
-// Which row is looked for: an empty one, one with halvings to go, or that of a caller's ticket.
+// Which row is looked for: an empty one, one with halvings to go, or that of a caller's ticket. No closure:
+// what is found is `onward` of the test that a value of this type names.
 #[derive(Clone, Copy)]
 pub enum Want {
     Vacant,

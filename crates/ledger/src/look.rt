@@ -1,6 +1,6 @@
 // Looking through the rows of a desk: one search for all, and one count.
 ghost use Rattle.std.specs.Prelude.{◌≡◌};
-ghost use Rattle.ledger.specs.Rows.{blank, wants, of_caller, tally, onward};
+ghost use Rattle.ledger.specs.Rows.{blank, wants, of_caller, tally, onward, found};
 
 use super::{Desk, Row, Want};
 
@@ -23,60 +23,34 @@ pub fn blank_row() -> Row
     }
 }
 
-// Whether r is a row that is looked for.
-fn meets(w: Want, r: Row) -> bool
-    ensures { result ≡ wants w r }
-{
-    match w {
-        Want::Vacant => !r.filled,
-        Want::Unfinished => {
-            if r.filled {
-                return r.halvings < r.number;
-            }
-            false
-        }
-        Want::Held(caller, ticket) => {
-            if r.filled {
-                if r.caller == caller {
-                    return r.ticket == ticket;
-                }
-            }
-            false
+impl Want {
+    // Whether r is a row that is looked for.
+    #[tactic(auto, unfolding(crate::specs::Rows::vacant, crate::specs::Rows::unfinished, crate::specs::Rows::held))]
+    fn is_met(self, r: Row) -> bool
+        ensures { result ≡ wants self r }
+    {
+        match self {
+            Want::Vacant => !r.filled,
+            Want::Unfinished => r.filled && r.halvings < r.number,
+            Want::Held(caller, ticket) => r.filled && r.caller == caller && r.ticket == ticket,
         }
     }
 }
 
 // The first row that is looked for at or after the row `from`, round the end: how many places on it
-// lies, and 32 where there is none.
-pub fn places_on(d: Desk, w: Want, from: usize) -> usize
-    ensures { result ≡ onward (wants w) d from }
+// lies, if there is one.
+pub fn places_on(d: Desk, w: Want, from: usize) -> Option<usize>
+    ensures { result ≡ found (onward (wants w) d from) }
 {
-    let mut k = 0usize;
-    while k < 32 {
-        let i = (from % 32 + k) % 32;
-        let r = d.rows[i];
-        if meets(w, r) {
-            return k;
-        }
-        k += 1;
-    }
-    k
+    (0..32).position(|k| w.is_met(d.rows[(from % 32 + k) % 32]))
 }
 
 // How many rows a caller has open.
 pub fn count_open(d: Desk, caller: u64) -> u64
     ensures { result ≡ tally (of_caller caller) d }
 {
-    let mut n = 0u64;
-    let mut i = 0usize;
-    while i < 32 {
-        let r = d.rows[i];
-        i += 1;
-        if r.filled {
-            if r.caller == caller {
-                n += 1;
-            }
-        }
-    }
-    n
+    d.rows
+        .iter()
+        .filter(|r| r.filled && r.caller == caller)
+        .count() as u64
 }

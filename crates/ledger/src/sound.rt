@@ -52,14 +52,7 @@ fn row_right(r: Row, counts: &[u64; 8]) -> bool
 fn counts_right(counts: &[u64; 8]) -> bool
     ensures { result ≡ counts_right counts.now }
 {
-    let mut i = 0usize;
-    while i < 8 {
-        if TICKETS < counts[i] {
-            return false;
-        }
-        i += 1;
-    }
-    true
+    counts.iter().all(|count| *count <= TICKETS)
 }
 
 // Whether one of a caller's first three places holds t.
@@ -67,14 +60,7 @@ fn noted(tickets: &[u64; 32], caller: usize, t: u64) -> bool
     requires { caller < 8 }
     ensures { result ≡ among t tickets.now caller }
 {
-    let mut k = 0usize;
-    while k < 3 {
-        if tickets[caller + 8 * k] == t {
-            return true;
-        }
-        k += 1;
-    }
-    false
+    (0..3).any(|k| tickets[caller + 8 * k] == t)
 }
 
 // The filled rows, by themselves and beside each other. The tickets of caller c that were passed are
@@ -88,25 +74,23 @@ fn rows_right(d: Desk) -> bool
     let counts = d.counts;
     let mut tickets = [TICKETS; 32];
     let mut next = [0usize, 1, 2, 3, 4, 5, 6, 7];
-    let mut i = 0usize;
-    while i < 32 {
-        let r = d.rows[i];
-        i += 1;
-        if r.filled {
-            if !row_right(r, &counts) {
-                return false;
-            }
-            let c = r.caller as usize;
-            let place = next[c];
-            if 31 < place {
-                return false;
-            }
-            if noted(&tickets, c, r.ticket) {
-                return false;
-            }
-            tickets[place] = r.ticket;
-            next[c] = place + 8;
+    for r in d.rows {
+        if !r.filled {
+            continue;
         }
+        if !row_right(r, &counts) {
+            return false;
+        }
+        let c = r.caller as usize;
+        let place = next[c];
+        if 31 < place {
+            return false;
+        }
+        if noted(&tickets, c, r.ticket) {
+            return false;
+        }
+        tickets[place] = r.ticket;
+        next[c] = place + 8;
     }
     true
 }

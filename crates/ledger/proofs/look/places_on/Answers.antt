@@ -1,38 +1,26 @@
--- `ledger::look::places_on` meets its contract: none of the rows passed is looked for, and the first that is settles it. Assumes nothing.
-use native.Mathlib.Omega.{arith}
-use borrow.Author.Rules.{rules}
-use mathlib.Core.Path.{◌≡◌, refl, sym, ap, ◌∙◌}
-use mathlib.Core.Bool.{true, false}
-use Prim.Native.Nat.{ℕ, ◌+◌, ◌%◌}
-use Rattle.ledger.specs.Search.{count}
+-- `ledger::look::places_on` meets its contract: the test of each place is that of the definition. Assumes nothing.
+use Rattle.std.proofs.Common.{rules, ◌≡◌, ℕ, ◌+◌, ◌%◌, refl, Bool, true, false, arith, sym, ap, ◌∙◌}
+use Rattle.std.proofs.lemmas.Iterator.{YieldsList-from_range, IsFirst-from_position}
+use borrow.Author.Tests.{tests}
+use lib.ListN.{get_or}
+use Rattle.ledger.specs.declared.Row.{Row}
 use Rattle.ledger.specs.Rows.{row, wants, onward}
-use Rattle.ledger.proofs.Search.{count_no, least_here, least_end}
 use Rattle.ledger.proofs.Lists.{read}
+use Rattle.ledger.proofs.Told.{first_least}
 use Rattle.ledger.proofs.look.places_on.Goals as goal
 
 -- taking 32 off the place first, where it can be a large number, ends at the same row
 around : (from k : ℕ) → (from % 32 + k) % 32 ≡ (from + k) % 32
 around from k = omega arith
 
-pub loop-k-init : goal.loop-k-init
-unfolding count
-loop-k-init c = (search rules, refl)
-
-pub returns-then-meets : goal.returns-then-meets
-unfolding onward
-returns-then-meets c =
-    let told = read c.args.d _ c.well_formed.0 (wants c.args.w) true _ _ (omega arith) (sym c.meets.ensures ∙ c.if-meets.true) in
-    let here = ap (λ (i : ℕ). wants c.args.w (row c.args.d i)) (sym (around c.args.from c.loop-k.k)) ∙ told in
-    sym (least_here (λ j. wants c.args.w (row c.args.d ((c.args.from + j) % 32))) _ 32 c.loop-k-test.true c.loop-k.invariant.1 here)
-
-pub loop-k-preserved : goal.loop-k-preserved
-loop-k-preserved c =
-    let told = read c.args.d _ c.well_formed.0 (wants c.args.w) false _ _ (omega arith) (sym c.meets.ensures ∙ c.if-meets.false) in
-    let here = ap (λ (i : ℕ). wants c.args.w (row c.args.d i)) (sym (around c.args.from c.loop-k.k)) ∙ told in
-    (omega arith, count_no (λ j. wants c.args.w (row c.args.d ((c.args.from + j) % 32))) _ here ∙ c.loop-k.invariant.1)
-
 pub returns : goal.returns
 unfolding onward
 returns c =
-    let e : c.loop-k.k ≡ 32 = omega arith in
-    e ∙ sym (least_end _ 32 (rw e at c.loop-k.invariant.1))
+    let met = λ (k : ℕ). wants c.args.w (row c.args.d ((c.args.from + k) % 32)) in
+    let Here : ℕ → Bool → Type 0 = λ k b. (r : Row) × (wants c.args.w (get_or c.args.d.rows ((c.args.from % 32 + k) % 32) r) ≡ b) in
+    let told : (k : ℕ) (b : Bool) → Here k b → met k ≡ b = λ k b h.
+    ap (λ (i : ℕ). wants c.args.w (row c.args.d i)) (sym (around c.args.from k)) ∙ read c.args.d _ c.well_formed.0 (wants c.args.w) b _ h.0 (omega arith) h.1 in
+    first_least met 32 c.position.result
+    (IsFirst-from_position _ _ _ (λ k. met k ≡ true) (λ k. met k ≡ false) c.position.ensures.ran (YieldsList-from_range 0 32 32 refl refl)
+    (λ x q k. told x true (search (rules, tests)))
+    (λ x q k. (search (rules, tests), told x false (search (rules, tests)))))

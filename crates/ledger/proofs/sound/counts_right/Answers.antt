@@ -1,26 +1,13 @@
--- `ledger::sound::counts_right` meets its contract: each count passed is right, and the first that is not settles it. Assumes nothing.
-use native.Mathlib.Omega.{arith}
-use borrow.Author.Rules.{rules}
-use mathlib.Core.Path.{◌≡◌, refl, sym}
-use borrow.Author.Tests.{le-leb, lt-leb}
-use Rattle.ledger.specs.Search.{upto}
-use Rattle.ledger.specs.Rows.{counts_right}
-use Rattle.ledger.proofs.Search.{upto_fails, upto_more}
+-- `ledger::sound::counts_right` meets its contract: the test of each count is that of the definition. Assumes nothing.
+use Rattle.std.proofs.Common.{rules, ◌≡◌, true, false}
+use Rattle.std.proofs.lemmas.Iterator.{YieldsList-from_slice, cases_from_all}
+use borrow.Author.Tests.{tests}
+use lib.Dec.{leb}
+use Rattle.ledger.specs.Rows.{most, counts_right}
+use Rattle.ledger.proofs.Told.{all_upto}
 use Rattle.ledger.proofs.sound.counts_right.Goals as goal
-
-pub loop-i-init : goal.loop-i-init
-unfolding upto
-loop-i-init c = (search rules, refl)
-
-pub returns-then-counts-i-gt-TICKETS : goal.returns-then-counts-i-gt-TICKETS
-unfolding counts_right
-returns-then-counts-i-gt-TICKETS c = sym (upto_fails _ 8 _ c.loop-i-test.true (lt-leb _ _ c.if-counts-i-gt-TICKETS.true))
-
-pub loop-i-preserved : goal.loop-i-preserved
-loop-i-preserved c = (omega arith, upto_more _ _ c.loop-i.invariant.1 (le-leb _ _ c.if-counts-i-gt-TICKETS.false))
 
 pub returns : goal.returns
 unfolding counts_right
 returns c =
-    let e : c.loop-i.i ≡ 8 = omega arith in
-    sym (rw e at c.loop-i.invariant.1)
+    rw c.told-counts at (all_upto (λ n. leb n most) c.args.counts.now c.all.result (cases_from_all _ _ _ (λ n. leb n most ≡ true) (λ n. leb n most ≡ false) c.all.ensures.ran (YieldsList-from_slice c.args.counts.now cc) (λ x q k. search (rules, tests)) (λ x q k. search (rules, tests))))

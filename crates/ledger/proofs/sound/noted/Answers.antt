@@ -1,31 +1,15 @@
--- `ledger::sound::noted` meets its contract: none of the places passed holds t, and the first that does settles it. Assumes nothing.
-use native.Mathlib.Omega.{arith}
-use borrow.Author.Rules.{rules}
-use mathlib.Core.Path.{◌≡◌, refl, sym, ◌∙◌}
-use Prim.Native.Nat.{◌+◌, ◌*◌}
-use borrow.Author.Tests.{eq-eqb, ne_eqb, lt-ltb, le-ltb}
+-- `ledger::sound::noted` meets its contract: the test of each place is that of the definition. Assumes nothing.
+use Rattle.std.proofs.Common.{rules, ◌≡◌, ℕ, ◌+◌, ◌*◌, refl, true, false}
+use Rattle.std.proofs.lemmas.Iterator.{YieldsList-from_range, cases_from_any}
+use borrow.Author.Tests.{tests}
 use lib.Dec.{eqb}
 use lib.ListN.{get_or}
-use Rattle.ledger.specs.Search.{count}
 use Rattle.ledger.specs.Noted.{often, among}
-use Rattle.ledger.proofs.Search.{some_counted, count_no}
+use Rattle.ledger.proofs.Told.{any_counted}
 use Rattle.ledger.proofs.sound.noted.Goals as goal
-
-pub loop-k-init : goal.loop-k-init
-unfolding count
-loop-k-init c = (search rules, refl)
-
-pub returns-then-tickets-caller : goal.returns-then-tickets-caller
-unfolding among often
-returns-then-tickets-caller c = sym (lt-ltb _ _ (some_counted _ _ _ c.loop-k-test.true (eq-eqb _ _ c.if-tickets-caller.true)))
-
-pub loop-k-preserved : goal.loop-k-preserved
-loop-k-preserved c = (omega arith, count_no _ _ (ne_eqb _ _ c.if-tickets-caller.false) ∙ c.loop-k.invariant.1)
 
 pub returns : goal.returns
 unfolding among often
 returns c =
-    let e : c.loop-k.k ≡ 3 = omega arith in
-    let z = rw e at c.loop-k.invariant.1 in
-    let s = c.args in
-    sym (le-ltb 0 (count (λ j. eqb (get_or s.tickets.now (s.caller + 8 * j) 0) s.t) 3) (omega arith))
+    let holds = λ (k : ℕ). eqb (get_or c.args.tickets.now (c.args.caller + 8 * k) 0) c.args.t in
+    any_counted holds 3 c.any.result (cases_from_any _ _ _ (λ k. holds k ≡ true) (λ k. holds k ≡ false) c.any.ensures.ran (YieldsList-from_range 0 3 3 refl refl) (λ x q k. search (rules, tests)) (λ x q k. search (rules, tests)))
