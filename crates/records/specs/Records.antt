@@ -1,6 +1,6 @@
 -- A run of desk calls in bytes: records of six little-endian u64s, op, caller, a, b, c and d, one behind the other. `rest` is what is left of the run, so
 -- that a record's words are numbers 0 to 5 of it. Definitions only.
-use Rattle.std.specs.Prelude.{ℕ, zero, suc, ◌+◌, ◌*◌, Bool, cond, ◌&&◌, List, [], ◌∷◌, ◌++◌, leb, eqb, length}
+use Rattle.std.specs.Prelude.{ℕ, zero, suc, ◌+◌, ◌*◌, Bool, cond, ◌&&◌, List, [], ◌∷◌, ◌++◌, leb, eqb, length, Option, Some, None}
 use Rattle.arith.specs.Bits.{float_of}
 use Rattle.words.specs.Words.{word_of}
 use Rattle.ledger.specs.Search.{upto}
@@ -8,7 +8,7 @@ use Rattle.ledger.specs.declared.Row.{Row}
 use Rattle.ledger.specs.declared.Desk.{Desk}
 use Rattle.records.specs.declared.Call.TheVariants.{Post, Peek, Collect, Withdraw}
 use Rattle.records.specs.declared.Deed.{Deed}
-use Rattle.records.specs.declared.Deed.TheVariants.{Asked, Turns, Given, Shown, Bad}
+use Rattle.records.specs.declared.Deed.TheVariants.{Asked, Turns, Given, Shown}
 
 -- the bytes of a record, and of one with a desk behind it: 361 words more
 abbrev pub record_bytes : ℕ
@@ -24,16 +24,16 @@ most_turns = 100000
 -- ---- what a record asks for
 
 -- 3 peek, 4 collect, 5 withdraw: a is the ticket
-unfoldable pub called : ℕ → ℕ → ℕ → Deed
+unfoldable pub called : ℕ → ℕ → ℕ → Option Deed
 called op caller a =
-    cond (eqb op 3) (Asked (Peek caller a)) (cond (eqb op 4) (Asked (Collect caller a)) (cond (eqb op 5) (Asked (Withdraw caller a)) Bad))
+    cond (eqb op 3) (Some (Asked (Peek caller a))) (cond (eqb op 4) (Some (Asked (Collect caller a))) (cond (eqb op 5) (Some (Asked (Withdraw caller a))) None))
 
 -- 1 post: a is the kind, b and c the bits of p and y, d the number of halvings; 2 turn, a times; 7 show the desk
-unfoldable pub plain_of : ℕ → ℕ → ℕ → ℕ → ℕ → ℕ → Deed
+unfoldable pub plain_of : ℕ → ℕ → ℕ → ℕ → ℕ → ℕ → Option Deed
 plain_of op caller a b c d =
     cond (eqb op 1)
-    (Asked (Post caller a (float_of b) (float_of c) d))
-    (cond (eqb op 2) (cond (leb a most_turns) (Turns a) Bad) (cond (eqb op 7) Shown (called op caller a)))
+    (Some (Asked (Post caller a (float_of b) (float_of c) d)))
+    (cond (eqb op 2) (cond (leb a most_turns) (Some (Turns a)) None) (cond (eqb op 7) (Some Shown) (called op caller a)))
 
 -- ---- a desk in words: the pointer, 8 counts, and 32 rows of eleven words each
 
@@ -75,11 +75,11 @@ desk_in rest = record { rows = made (row_in rest) 32; counts = made (count_in re
 
 -- ---- reading a record
 
--- 6 takes the desk behind the record; a record that is cut short, or of which the rules know nothing, is bad
-unfoldable pub deed_of : List ℕ → Deed
+-- 6 takes the desk behind the record; a record that is cut short, or of which the rules know nothing, asks for nothing
+unfoldable pub deed_of : List ℕ → Option Deed
 deed_of rest =
     cond (leb record_bytes (length rest))
     (cond (eqb (word_of rest 0) 6)
-    (cond (rows_known rest) Given Bad)
+    (cond (rows_known rest) (Some Given) None)
     (plain_of (word_of rest 0) (word_of rest 1) (word_of rest 2) (word_of rest 3) (word_of rest 4) (word_of rest 5)))
-    Bad
+    None

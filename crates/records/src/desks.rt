@@ -20,12 +20,10 @@ pub(crate) fn rows_known(rest: &[u8]) -> bool
     if rest.len() < 2936 {
         return false;
     }
-    let mut i = 0;
-    while i < 32 {
+    for i in 0..32 {
         if 1 < words::word(rest, row_start(i)) {
             return false;
         }
-        i += 1;
     }
     true
 }
@@ -55,13 +53,10 @@ fn row_in(rest: &[u8], i: usize) -> Row
 fn rows_in(rest: &[u8]) -> [Row; 32]
     ensures { result ≡ made (row_in rest.now) 32 }
 {
-    let first = row_in(rest, 0);
-    let mut rows = [first; 32];
-    let mut i = 0;
-    while i < 32 {
+    let mut rows = [row_in(rest, 0); 32];
+    for i in 0..32 {
         let r = row_in(rest, i);
         rows[i] = r;
-        i += 1;
     }
     rows
 }
@@ -71,10 +66,8 @@ fn counts_in(rest: &[u8]) -> [u64; 8]
     ensures { result ≡ made (count_in rest.now) 8 }
 {
     let mut counts = [0u64; 8];
-    let mut c = 0;
-    while c < 8 {
+    for c in 0..8 {
         counts[c] = words::word(rest, 7 + c);
-        c += 1;
     }
     counts
 }
@@ -83,11 +76,9 @@ fn counts_in(rest: &[u8]) -> [u64; 8]
 pub fn desk_in(rest: &[u8]) -> Desk
     ensures { result ≡ desk_in rest.now }
 {
-    let rows = rows_in(rest);
-    let counts = counts_in(rest);
     Desk {
-        rows: rows,
-        counts: counts,
+        rows: rows_in(rest),
+        counts: counts_in(rest),
         pointer: words::word(rest, 6),
     }
 }

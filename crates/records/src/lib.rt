@@ -34,12 +34,11 @@ pub enum Call {
 }
 
 // What a record asks for: a call, so many turns, that the desk be the one behind it, or that the desk
-// be shown; or it is no record.
+// be shown.
 #[derive(Clone, Copy)]
 pub enum Deed {
     Asked(Call),
     Turns(u64),
     Given,
     Shown,
-    Bad,
 }

@@ -6,11 +6,11 @@ use Rattle.records.proofs.Filled.{begun, stored, whole}
 use Rattle.records.proofs.desks.counts_in.Goals as goal
 
 pub loop-c-init : goal.loop-c-init
-loop-c-init c = (omega arith, begun _ 8 _ refl)
+loop-c-init c = begun _ 8 _ refl
 
 pub loop-c-preserved : goal.loop-c-preserved
 loop-c-preserved c =
-    (omega arith, stored (count_in c.args.rest.now) 8 c.loop-c.c _ _ c.loop-c-test.true c.word.ensures c.loop-c.invariant.1)
+    stored (count_in c.args.rest.now) 8 c.loop-c.c _ _ c.loop-c-test.true c.word.ensures c.loop-c.invariant
 
 pub returns : goal.returns
-returns c = let l = c.loop-c in whole _ 8 _ _ l.invariant.0 c.loop-c-test.false l.invariant.1
+returns c = let l = c.loop-c in whole _ 8 _ _ (omega arith) (omega arith) l.invariant

@@ -1,11 +1,7 @@
 -- `records::desks::counts_in` meets its contract: the counts passed are filled in. Assumes nothing.
-use Prim.Native.Nat.{◌-◌, ◌≤◌}
 use Rattle.records.specs.Records.{count_in}
 use Rattle.records.proofs.Filled.{Filled}
 use Rattle.records.proofs.desks.counts_in.Given as goal
 
 abbrev pub invariant-loop-c : goal.invariant-loop-c
-invariant-loop-c l = (l.c ≤ 8) × Filled (count_in l.rest) 8 l.c l.counts
-
-abbrev pub decreases-loop-c : goal.decreases-loop-c
-decreases-loop-c l = 8 - l.c
+invariant-loop-c l = Filled (count_in l.rest) 8 l.c l.counts

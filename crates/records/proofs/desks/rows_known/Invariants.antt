@@ -1,5 +1,4 @@
 -- `records::desks::rows_known` meets its contract: each row passed says 1 or 0, and the first that does not settles it. Assumes nothing.
-use Prim.Native.Nat.{◌-◌, ◌≤◌}
 use mathlib.Core.Bool.{true}
 use mathlib.Core.Path.{◌≡◌}
 use lib.Dec.{leb}
@@ -9,7 +8,4 @@ use Rattle.records.specs.Records.{row_start}
 use Rattle.records.proofs.desks.rows_known.Given as goal
 
 abbrev pub invariant-loop-i : goal.invariant-loop-i
-invariant-loop-i l = (l.i ≤ 32) × (upto (λ k. leb (word_of l.rest (row_start k)) 1) l.i ≡ true)
-
-abbrev pub decreases-loop-i : goal.decreases-loop-i
-decreases-loop-i l = 32 - l.i
+invariant-loop-i l = upto (λ k. leb (word_of l.rest (row_start k)) 1) l.i ≡ true
