@@ -1,0 +1,12 @@
+-- `backward::p1hs::P1hs` has the form of its equation: table, arguments and what the sum gives are those of specs/P1hs. Assumes nothing.
+use mathlib.Core.Path.{refl}
+use lib.Ieee.{round, of_int, of_bits}
+use Rattle.arith.specs.Printed.{printed}
+use Rattle.terms.specs.Sum.{rows}
+use Rattle.backward.specs.Equation.{entered, given, value_of}
+use Rattle.backward.specs.P1hs.{table, arguments, p1hs}
+use Rattle.backward.proofs.p1hs.P1hsEquation.form.Goals as goal
+
+pub returns : goal.returns
+unfolding rows entered given value_of table arguments p1hs printed round of_int of_bits
+returns c = λ x y. refl
