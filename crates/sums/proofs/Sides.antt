@@ -5,6 +5,9 @@
 use mathlib.Core.Path.{◌≡◌, refl, ap}
 use mathlib.Core.Bool.{Bool, true, false, false≢true, cond, ◌&&◌, and-false}
 use lib.Ieee.{Float, lt, le, is_nan}
+use Rattle.std.specs.Prelude.{Result, Ok, Err}
+use Rattle.std.specs.Result.{result_or}
+use Rattle.refusals.specs.declared.Refusal.{Refusal}
 use Rattle.equations.specs.Equations.{is_of, equation_of}
 use Rattle.equations.specs.declared.Equation.{Equation}
 use Rattle.equations.specs.declared.Equation.TheVariants.{Region1, Region2}
@@ -23,26 +26,26 @@ use Rattle.places.specs.declared.Side.{Side}
 use Rattle.pull.specs.Pull.{is_past, is_beside, past_by, pulled_to, reach, in_reach}
 use Rattle.pull.proofs.Sides.{line_not_past, pulled_not_past, not_past_is_beside, not_past_kept, beside_is_not_past, not_past_out_of_reach, further_out_of_reach}
 use Rattle.reply.specs.declared.Answer.{Answer}
-use Rattle.sums.specs.Queries.{temperature_of, kept_beside, placed_py, answer_py, pressure_of, is_in, candidate_h, candidate_s, close_of, agreed_of, tried_of, candidate_of, first_of, answer_hs}
+use Rattle.sums.specs.Queries.{temperature_of, kept_beside, placed_py, answer_py, pressure_of, is_in, candidate_h, candidate_s, close_of, agreed_of, tried_of, candidate_of, state_hs, single_in, answer_hs}
 
 -- ---- a state of one phase that (p,h) or (p,s) gives is that of its phase at the T kept beside the line
 
-abbrev state_in : Answer → Single → Single
-state_in (Answer.Single a) other = a
-state_in (Answer.Wet a) other = other
-state_in (Answer.Refused n) other = other
+abbrev state_in : Result Answer Refusal → Single → Single
+state_in (Ok (Answer.Single a)) other = a
+state_in (Ok (Answer.Wet a)) other = other
+state_in (Err refusal) other = other
 
-abbrev is_single : Answer → Bool
-is_single (Answer.Single a) = true
-is_single (Answer.Wet a) = false
-is_single (Answer.Refused n) = false
+abbrev is_single : Result Answer Refusal → Bool
+is_single (Ok (Answer.Single a)) = true
+is_single (Ok (Answer.Wet a)) = false
+is_single (Err refusal) = false
 
-by_phase : (given : Given) (p y : Float) (w : Side) (a : Single) (P : Single → Type 0)
-    → ((phase : Phase) → w ≡ Side.Phase phase → P (marked_of given (equation_of phase) p y (kept_beside phase p (temperature_of given phase p y))))
-    → placed_py given p y w ≡ Answer.Single a → P a
-by_phase given p y (Side.Phase phase) a P each e = rw (← ap (λ (r : Answer). state_in r a) e) (each phase refl)
-by_phase given p y (Side.Wet t) a P each e = absurd (false≢true (ap is_single e))
-by_phase given p y (Side.Refused n) a P each e = absurd (false≢true (ap is_single e))
+by_phase : (given : Given) (p y : Float) (w : Result Side Refusal) (a : Single) (P : Single → Type 0)
+    → ((phase : Phase) → w ≡ Ok (Side.Phase phase) → P (marked_of given (equation_of phase) p y (kept_beside phase p (temperature_of given phase p y))))
+    → placed_py given p y w ≡ Ok (Answer.Single a) → P a
+by_phase given p y (Ok (Side.Phase phase)) a P each e = rw (← ap (λ (r : Result Answer Refusal). state_in r a) e) (each phase refl)
+by_phase given p y (Ok (Side.Wet t)) a P each e = absurd (false≢true (ap is_single e))
+by_phase given p y (Err refusal) a P each e = absurd (false≢true (ap is_single e))
 
 -- ---- its side
 
@@ -57,55 +60,55 @@ either Liquid Vapour p t up_to_lem e = absurd (false≢true (ap (λ (q : Equatio
 either Vapour Liquid p t up_to_lem e = absurd (false≢true (ap (λ (q : Equation). is_of q Vapour) e))
 either Vapour Vapour p t up_to_lem e = kept_not_past Vapour p t up_to_lem
 
-pub not_past : (given : Given) (p y : Float) (a : Single) (phase : Phase) → saturates p ≡ true → answer_py given p y ≡ Answer.Single a
+pub not_past : (given : Given) (p y : Float) (a : Single) (phase : Phase) → saturates p ≡ true → answer_py given p y ≡ Ok (Answer.Single a)
     → a.equation ≡ equation_of phase → is_past phase (ts_of p) a.t ≡ false
 unfolding answer_py marked_of
 not_past given p y a phase up_to_lem =
     by_phase given p y (place_py given p y) a (λ a. a.equation ≡ equation_of phase → is_past phase (ts_of p) a.t ≡ false)
     (λ other place. either phase other p (temperature_of given other p y) up_to_lem)
 
-pub on_its_side : (given : Given) (p y : Float) (a : Single) (phase : Phase) → saturates p ≡ true → answer_py given p y ≡ Answer.Single a
+pub on_its_side : (given : Given) (p y : Float) (a : Single) (phase : Phase) → saturates p ≡ true → answer_py given p y ≡ Ok (Answer.Single a)
     → a.equation ≡ equation_of phase → is_nan (ts_of p) ≡ false → is_nan a.t ≡ false → is_beside phase (ts_of p) a.t ≡ true
 on_its_side given p y a phase up_to_lem e q line value =
     not_past_is_beside phase (ts_of p) a.t line value (not_past given p y a phase up_to_lem e q)
 
 -- the same of each region: in region 1 Ts(p) is no NaN
-liquid_line : (given : Given) (p y : Float) (phase : Phase) → saturates p ≡ true → place_py given p y ≡ Side.Phase phase → equation_of phase ≡ Region1 → is_nan (ts_of p) ≡ false
+liquid_line : (given : Given) (p y : Float) (phase : Phase) → saturates p ≡ true → place_py given p y ≡ Ok (Side.Phase phase) → equation_of phase ≡ Region1 → is_nan (ts_of p) ≡ false
 liquid_line given p y Liquid up_to_lem place q = line_known given p y up_to_lem place
 liquid_line given p y Vapour up_to_lem place q = absurd (false≢true (ap (λ (e : Equation). is_of e Liquid) q))
 
-line_there : (given : Given) (p y : Float) (a : Single) → saturates p ≡ true → answer_py given p y ≡ Answer.Single a → a.equation ≡ Region1 → is_nan (ts_of p) ≡ false
+line_there : (given : Given) (p y : Float) (a : Single) → saturates p ≡ true → answer_py given p y ≡ Ok (Answer.Single a) → a.equation ≡ Region1 → is_nan (ts_of p) ≡ false
 unfolding answer_py marked_of
 line_there given p y a up_to_lem =
     by_phase given p y (place_py given p y) a (λ a. a.equation ≡ Region1 → is_nan (ts_of p) ≡ false) (λ phase. liquid_line given p y phase up_to_lem)
 
-pub liquid_at_most : (given : Given) (p y : Float) (a : Single) → saturates p ≡ true → answer_py given p y ≡ Answer.Single a → a.equation ≡ Region1
+pub liquid_at_most : (given : Given) (p y : Float) (a : Single) → saturates p ≡ true → answer_py given p y ≡ Ok (Answer.Single a) → a.equation ≡ Region1
     → is_nan a.t ≡ false → le a.t (ts_of p) ≡ true
 liquid_at_most given p y a up_to_lem e q value = on_its_side given p y a Liquid up_to_lem e q (line_there given p y a up_to_lem e q) value
 
-pub vapour_at_least : (given : Given) (p y : Float) (a : Single) → saturates p ≡ true → answer_py given p y ≡ Answer.Single a → a.equation ≡ Region2
+pub vapour_at_least : (given : Given) (p y : Float) (a : Single) → saturates p ≡ true → answer_py given p y ≡ Ok (Answer.Single a) → a.equation ≡ Region2
     → is_nan (ts_of p) ≡ false → is_nan a.t ≡ false → le (ts_of p) a.t ≡ true
 vapour_at_least given p y a = on_its_side given p y a Vapour
 
 -- ---- its state and mark: those of the T that the answer has
 
-pub marked_there : (given : Given) (p y : Float) (a : Single) → answer_py given p y ≡ Answer.Single a → a ≡ marked_of given a.equation p y a.t
+pub marked_there : (given : Given) (p y : Float) (a : Single) → answer_py given p y ≡ Ok (Answer.Single a) → a ≡ marked_of given a.equation p y a.t
 unfolding answer_py marked_of
 marked_there given p y a = by_phase given p y (place_py given p y) a (λ a. a ≡ marked_of given a.equation p y a.t) (λ phase place. refl)
 
 -- ---- where nothing is pulled
 
 -- the answer with the T of the backward equation as it is
-abbrev pub as_backward : Given → Float → Float → Side → Answer
-as_backward given p y (Side.Phase phase) = Answer.Single (marked_of given (equation_of phase) p y (temperature_of given phase p y))
-as_backward given p y (Side.Wet t) = Answer.Wet (wet_of given p y t)
-as_backward given p y (Side.Refused n) = Answer.Refused n
+abbrev pub as_backward : Given → Float → Float → Result Side Refusal → Result Answer Refusal
+as_backward given p y (Ok (Side.Phase phase)) = Ok (Answer.Single (marked_of given (equation_of phase) p y (temperature_of given phase p y)))
+as_backward given p y (Ok (Side.Wet t)) = Ok (Answer.Wet (wet_of given p y t))
+as_backward given p y (Err refusal) = Err refusal
 
 -- whether that T lies past the line
-abbrev pub strays : Given → Float → Float → Side → Bool
-strays given p y (Side.Phase phase) = is_past phase (ts_of p) (temperature_of given phase p y)
-strays given p y (Side.Wet t) = false
-strays given p y (Side.Refused n) = false
+abbrev pub strays : Given → Float → Float → Result Side Refusal → Bool
+strays given p y (Ok (Side.Phase phase)) = is_past phase (ts_of p) (temperature_of given phase p y)
+strays given p y (Ok (Side.Wet t)) = false
+strays given p y (Err refusal) = false
 
 kept_where : (phase : Phase) (p t : Float) → saturates p && is_past phase (ts_of p) t ≡ false → kept_beside phase p t ≡ t
 unfolding kept_beside
@@ -115,18 +118,18 @@ kept_where phase p t = go (saturates p)
     go true beside = not_past_kept phase (ts_of p) t beside
     go false above = refl
 
-placed_unpulled : (given : Given) (p y : Float) (w : Side) → saturates p && strays given p y w ≡ false → placed_py given p y w ≡ as_backward given p y w
-placed_unpulled given p y (Side.Phase phase) k = rw (kept_where phase p (temperature_of given phase p y) k)
-placed_unpulled given p y (Side.Wet t) k = refl
-placed_unpulled given p y (Side.Refused n) k = refl
+placed_unpulled : (given : Given) (p y : Float) (w : Result Side Refusal) → saturates p && strays given p y w ≡ false → placed_py given p y w ≡ as_backward given p y w
+placed_unpulled given p y (Ok (Side.Phase phase)) k = rw (kept_where phase p (temperature_of given phase p y) k)
+placed_unpulled given p y (Ok (Side.Wet t)) k = refl
+placed_unpulled given p y (Err refusal) k = refl
 
 pub unpulled : (given : Given) (p y : Float) → saturates p && strays given p y (place_py given p y) ≡ false → answer_py given p y ≡ as_backward given p y (place_py given p y)
 unfolding answer_py
 unpulled given p y = placed_unpulled given p y (place_py given p y)
 
 -- a T on its side stays
-pub kept_on_its_side : (given : Given) (p y : Float) (phase : Phase) → place_py given p y ≡ Side.Phase phase → is_beside phase (ts_of p) (temperature_of given phase p y) ≡ true
-    → answer_py given p y ≡ Answer.Single (marked_of given (equation_of phase) p y (temperature_of given phase p y))
+pub kept_on_its_side : (given : Given) (p y : Float) (phase : Phase) → place_py given p y ≡ Ok (Side.Phase phase) → is_beside phase (ts_of p) (temperature_of given phase p y) ≡ true
+    → answer_py given p y ≡ Ok (Answer.Single (marked_of given (equation_of phase) p y (temperature_of given phase p y)))
 unfolding answer_py
 kept_on_its_side given p y phase place beside =
     let t = temperature_of given phase p y in
@@ -135,19 +138,19 @@ kept_on_its_side given p y phase place beside =
 
 -- ---- where T is pulled, it is Ts(p)
 
-abbrev pub at_line : Given → Float → Float → Side → Answer
-at_line given p y (Side.Phase phase) = Answer.Single (marked_of given (equation_of phase) p y (ts_of p))
-at_line given p y (Side.Wet t) = Answer.Wet (wet_of given p y t)
-at_line given p y (Side.Refused n) = Answer.Refused n
+abbrev pub at_line : Given → Float → Float → Result Side Refusal → Result Answer Refusal
+at_line given p y (Ok (Side.Phase phase)) = Ok (Answer.Single (marked_of given (equation_of phase) p y (ts_of p)))
+at_line given p y (Ok (Side.Wet t)) = Ok (Answer.Wet (wet_of given p y t))
+at_line given p y (Err refusal) = Err refusal
 
 pulled_where : (phase : Phase) (p t : Float) → saturates p ≡ true → is_past phase (ts_of p) t ≡ true → kept_beside phase p t ≡ ts_of p
 unfolding kept_beside pulled_to
 pulled_where phase p t up_to_lem past = rw (up_to_lem, past) refl
 
-placed_pulled : (given : Given) (p y : Float) (w : Side) → saturates p ≡ true → strays given p y w ≡ true → placed_py given p y w ≡ at_line given p y w
-placed_pulled given p y (Side.Phase phase) up_to_lem past = rw (pulled_where phase p (temperature_of given phase p y) up_to_lem past)
-placed_pulled given p y (Side.Wet t) up_to_lem past = refl
-placed_pulled given p y (Side.Refused n) up_to_lem past = refl
+placed_pulled : (given : Given) (p y : Float) (w : Result Side Refusal) → saturates p ≡ true → strays given p y w ≡ true → placed_py given p y w ≡ at_line given p y w
+placed_pulled given p y (Ok (Side.Phase phase)) up_to_lem past = rw (pulled_where phase p (temperature_of given phase p y) up_to_lem past)
+placed_pulled given p y (Ok (Side.Wet t)) up_to_lem past = refl
+placed_pulled given p y (Err refusal) up_to_lem past = refl
 
 pub pulled : (given : Given) (p y : Float) → saturates p ≡ true → strays given p y (place_py given p y) ≡ true → answer_py given p y ≡ at_line given p y (place_py given p y)
 unfolding answer_py
@@ -180,7 +183,7 @@ pub candidate_tried : (phase : Phase) (h s : Float) → let p = pressure_of phas
 unfolding candidate_of
 candidate_tried phase h s enough = rw enough refl
 
-pub candidate_below : (phase : Phase) (h s : Float) → le p_triple (pressure_of phase h s) ≡ false → candidate_of phase h s ≡ Answer.Refused 7
+pub candidate_below : (phase : Phase) (h s : Float) → le p_triple (pressure_of phase h s) ≡ false → candidate_of phase h s ≡ Err Refusal.NoRegion
 unfolding candidate_of
 candidate_below phase h s below = rw below refl
 
@@ -190,19 +193,24 @@ candidate_below phase h s below = rw below refl
 abbrev at_reach : Phase → Equation → Float → Float → Bool
 at_reach phase equation p t = is_of equation phase && (saturates p && in_reach phase (ts_of p) t)
 
-abbrev pub is_reached : Phase → Answer → Bool
-is_reached phase (Answer.Single a) = at_reach phase a.equation a.p a.t
-is_reached phase (Answer.Wet a) = false
-is_reached phase (Answer.Refused n) = false
+abbrev pub is_reached : Phase → Result Answer Refusal → Bool
+is_reached phase (Ok (Answer.Single a)) = at_reach phase a.equation a.p a.t
+is_reached phase (Ok (Answer.Wet a)) = false
+is_reached phase (Err refusal) = false
 
-whichever : (phase : Phase) (b : Bool) (x y : Answer) → is_reached phase x ≡ false → is_reached phase y ≡ false → is_reached phase (cond b x y) ≡ false
+-- the same of a state that is no answer yet
+abbrev reaches : Phase → Result Single Refusal → Bool
+reaches phase (Ok a) = at_reach phase a.equation a.p a.t
+reaches phase (Err refusal) = false
+
+whichever : (phase : Phase) (b : Bool) (x y : Result Single Refusal) → reaches phase x ≡ false → reaches phase y ≡ false → reaches phase (cond b x y) ≡ false
 whichever phase true x y h k = h
 whichever phase false x y h k = k
 
-close_clear : (phase other : Phase) (p t h s : Float) → at_reach phase (equation_of other) p t ≡ false → is_reached phase (close_of other p t h s) ≡ false
+close_clear : (phase other : Phase) (p t h s : Float) → at_reach phase (equation_of other) p t ≡ false → reaches phase (close_of other p t h s) ≡ false
 unfolding close_of
 close_clear phase other p t h s clear =
-    whichever phase (both_near candidate_h candidate_s (state_at (equation_of other) p t) h s) (Answer.Single (marked_both_of (equation_of other) p t h s)) (Answer.Refused 7) clear refl
+    whichever phase (both_near candidate_h candidate_s (state_at (equation_of other) p t) h s) (Ok (marked_both_of (equation_of other) p t h s)) (Err Refusal.NoRegion) clear refl
 
 -- Ts(p) itself is out of reach
 line_clear : (phase other : Phase) (p : Float) → at_reach phase (equation_of other) p (ts_of p) ≡ false
@@ -216,30 +224,37 @@ own_clear Liquid Vapour p t k = refl
 own_clear Vapour Liquid p t k = refl
 own_clear Vapour Vapour p t k = k
 
-tried_clear : (phase other : Phase) (p t h s : Float) → is_reached phase (tried_of other p t h s) ≡ false
+tried_clear : (phase other : Phase) (p t h s : Float) → reaches phase (tried_of other p t h s) ≡ false
 unfolding tried_of agreed_of
 tried_clear phase other p t h s = go (saturates p && in_reach other (ts_of p) t) refl
   where
-    go : (b : Bool) → saturates p && in_reach other (ts_of p) t ≡ b → is_reached phase (cond b (close_of other p (ts_of p) h s) (agreed_of other p t h s)) ≡ false
+    go : (b : Bool) → saturates p && in_reach other (ts_of p) t ≡ b → reaches phase (cond b (close_of other p (ts_of p) h s) (agreed_of other p t h s)) ≡ false
     go true k = close_clear phase other p (ts_of p) h s (line_clear phase other p)
-    go false k = whichever phase (is_in other (place_pt p t)) (close_of other p t h s) (Answer.Refused 7) (close_clear phase other p t h s (own_clear phase other p t k)) refl
+    go false k = whichever phase (is_in other (place_pt p t)) (close_of other p t h s) (Err Refusal.NoRegion) (close_clear phase other p t h s (own_clear phase other p t k)) refl
 
-candidate_clear : (phase other : Phase) (h s : Float) → is_reached phase (candidate_of other h s) ≡ false
+candidate_clear : (phase other : Phase) (h s : Float) → reaches phase (candidate_of other h s) ≡ false
 unfolding candidate_of
 candidate_clear phase other h s =
     let p = pressure_of other h s in
     let t = temperature_of Enthalpy other p h in
-    whichever phase (le p_triple p) (tried_of other p t h s) (Answer.Refused 7) (tried_clear phase other p t h s) refl
+    whichever phase (le p_triple p) (tried_of other p t h s) (Err Refusal.NoRegion) (tried_clear phase other p t h s) refl
 
-first_clear : (phase : Phase) (x y : Answer) → is_reached phase x ≡ false → is_reached phase y ≡ false → is_reached phase (first_of x y) ≡ false
-first_clear phase (Answer.Single a) y h k = h
-first_clear phase (Answer.Wet a) y h k = h
-first_clear phase (Answer.Refused n) y h k = k
+first_clear : (phase : Phase) (x y : Result Single Refusal) → reaches phase x ≡ false → reaches phase y ≡ false → reaches phase (result_or x y) ≡ false
+first_clear phase (Ok a) y h k = h
+first_clear phase (Err refusal) y h k = k
 
-pub hs_out_of_reach : (phase : Phase) (h s : Float) → is_reached phase (answer_hs h s) ≡ false
-unfolding answer_hs
-hs_out_of_reach phase h s =
+state_clear : (phase : Phase) (h s : Float) → reaches phase (state_hs h s) ≡ false
+unfolding state_hs
+state_clear phase h s =
     let liquid = candidate_of Liquid h s in
     let vapour = candidate_of Vapour h s in
     let first = first_clear phase liquid vapour (candidate_clear phase Liquid h s) (candidate_clear phase Vapour h s) in
-    whichever phase (wild h s) (Answer.Refused 1) (first_of liquid vapour) refl first
+    whichever phase (wild h s) (Err Refusal.NotFinite) (result_or liquid vapour) refl first
+
+answered : (phase : Phase) (a : Result Single Refusal) → is_reached phase (single_in a) ≡ reaches phase a
+answered phase (Ok a) = refl
+answered phase (Err refusal) = refl
+
+pub hs_out_of_reach : (phase : Phase) (h s : Float) → is_reached phase (answer_hs h s) ≡ false
+unfolding answer_hs
+hs_out_of_reach phase h s = rw (answered phase (state_hs h s)) (state_clear phase h s)

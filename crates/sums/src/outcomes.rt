@@ -1,16 +1,16 @@
 // Queries from the inside: where the state lies that a query finds, so that a state or a derivative is
 // worked there and nothing of the other (specs/Queries.antt, specs/Outcomes.antt). An (h,s) query works
 // a state to judge it, and carries that.
-ghost use Rattle.std.specs.Prelude.{◌≡◌, ◌≢◌};
-ghost use Rattle.sums.specs.Queries.{temperature_of, answer_pt, answer_py, answer_hs, answer_of};
-ghost use Rattle.sums.specs.Outcomes.{outcome_of, shown_of, found_of, verified_in, marked_in};
+ghost use Rattle.std.specs.Prelude.{◌≡◌};
+ghost use Rattle.sums.specs.Queries.{temperature_of, answer_py, state_hs};
+ghost use Rattle.sums.specs.Outcomes.{full_in, found_of};
 
 use crate::candidates::candidate;
 use equations::{Equation, Phase, equation_of};
-use places::{Place, Standing, place_pt, standing_py, wild};
+use places::{Standing, standing_py, wild};
 use pull::pulled;
-use reply::Answer;
-use states::{Full, Wet, handed_out, marked, state_at, wet_at};
+use refusals::Refusal;
+use states::{Full, Wet, wet_at};
 use workings::Given;
 
 // Where a state of one phase lies.
@@ -25,63 +25,6 @@ pub(crate) struct Spot {
 pub(crate) enum Found {
     Single(Spot),
     Wet(Wet),
-    Refused(u64),
-}
-
-#[derive(Clone, Copy)]
-pub(crate) enum Outcome {
-    Single(Full),
-    Wet(Wet),
-    Refused(u64),
-}
-
-// The answer of an outcome.
-pub(crate) fn shown(o: Outcome) -> Answer
-    ensures { result ≡ shown_of o }
-{
-    match o {
-        Outcome::Single(a) => Answer::Single(handed_out(a)),
-        Outcome::Wet(a) => Answer::Wet(a),
-        Outcome::Refused(n) => Answer::Refused(n),
-    }
-}
-
-// The answer of a (p,T) query, marked by whether its equation comes back to p and T.
-pub(crate) fn verified_in(f: Found) -> Answer
-    ensures { result ≡ verified_in f }
-{
-    match f {
-        Found::Single(a) => {
-            let equation = a.equation;
-            Answer::Single(state_at(equation, a.p, a.t))
-        }
-        Found::Wet(a) => Answer::Wet(a),
-        Found::Refused(n) => Answer::Refused(n),
-    }
-}
-
-// The answer of a query that asked for an h or s.
-pub(crate) fn marked_in(given: Given, y: f64, f: Found) -> Answer
-    ensures { result ≡ marked_in given y f }
-{
-    match f {
-        Found::Single(a) => {
-            let equation = a.equation;
-            Answer::Single(marked(given, equation, a.p, y, a.t))
-        }
-        Found::Wet(a) => Answer::Wet(a),
-        Found::Refused(n) => Answer::Refused(n),
-    }
-}
-
-// From p in MPa and T in K.
-pub(crate) fn of_pt(p: f64, t: f64) -> Found
-    ensures { result ≡ found_of (answer_pt p t) }
-{
-    match place_pt(p, t) {
-        Place::Equation(equation) => Found::Single(Spot { equation, p, t }),
-        Place::Refused(n) => Found::Refused(n),
-    }
 }
 
 // T in K by the backward equation of a phase for p in MPa and an h in kJ/kg or s in kJ/(kg K).
@@ -101,50 +44,35 @@ pub(crate) fn temperature(given: Given, phase: Phase, p: f64, y: f64) -> f64
 }
 
 // From p in MPa and an h in kJ/kg or s in kJ/(kg K).
-pub(crate) fn of_py(given: Given, p: f64, y: f64) -> Found
+pub(crate) fn of_py(given: Given, p: f64, y: f64) -> Result<Found, Refusal>
     ensures { result ≡ found_of (answer_py given p y) }
 {
-    match standing_py(given, p, y) {
+    match standing_py(given, p, y)? {
         Standing::Beside { phase, saturated } => {
             let equation = equation_of(phase);
             let t = pulled(phase, saturated, temperature(given, phase, p, y));
-            Found::Single(Spot { equation, p, t })
+            Ok(Found::Single(Spot { equation, p, t }))
         }
-        Standing::Wet(t) => Found::Wet(wet_at(given, p, y, t)),
+        Standing::Wet(t) => Ok(Found::Wet(wet_at(given, p, y, t))),
         Standing::Beyond(phase) => {
             let equation = equation_of(phase);
             let t = temperature(given, phase, p, y);
-            Found::Single(Spot { equation, p, t })
+            Ok(Found::Single(Spot { equation, p, t }))
         }
-        Standing::Refused(n) => Found::Refused(n),
     }
 }
 
-// From h in kJ/kg and s in kJ/(kg K). One outcome is held and overwritten, not two side by side: each
-// takes some 200 bytes of stack (bench/stack).
-pub(crate) fn of_hs(h: f64, s: f64) -> Outcome
-    ensures { result ≡ outcome_of (answer_hs h s) }
+// From h in kJ/kg and s in kJ/(kg K). One state is held and overwritten, not two side by side: each takes
+// some 200 bytes of stack (bench/stack).
+pub(crate) fn of_hs(h: f64, s: f64) -> Result<Full, Refusal>
+    ensures { result ≡ full_in (state_hs h s) }
 {
     if wild(h, s) {
-        return Outcome::Refused(1);
+        return Err(Refusal::NotFinite);
     }
-    let mut outcome = candidate(Phase::Liquid, h, s);
-    match outcome {
-        Outcome::Refused(_) => outcome = candidate(Phase::Vapour, h, s),
-        _ => {}
+    let mut found = candidate(Phase::Liquid, h, s);
+    if found.is_err() {
+        found = candidate(Phase::Vapour, h, s);
     }
-    outcome
-}
-
-// By the number of the kind, which is not that of (h,s).
-pub(crate) fn of_kind(kind: u64, x: f64, y: f64) -> Found
-    requires { kind ≢ 4 }
-    ensures { result ≡ found_of (answer_of kind x y) }
-{
-    match kind {
-        1 => of_pt(x, y),
-        2 => of_py(Given::Enthalpy, x, y),
-        3 => of_py(Given::Entropy, x, y),
-        _ => Found::Refused(9),
-    }
+    found
 }
