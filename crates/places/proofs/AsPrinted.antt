@@ -4,32 +4,33 @@ use mathlib.Core.Path.{◌≡◌, refl, sym, ◌∙◌}
 use mathlib.Core.Bool.{Bool, true, false, not, cond, ◌||◌}
 use lib.Ieee.{Float, nan, inf, fin, lt, le, is_nan, round}
 use borrow.Author.Tests.{not-false}
+use Rattle.std.specs.Prelude.{Some, None, Result, Ok, Err}
 use Rattle.arith.specs.Bits.{finite}
 use Rattle.arith.specs.Printed.{printed}
 use Rattle.arith.proofs.Order.{lt_is_not_le}
 use Rattle.saturation_line.specs.Printed.{equation28}
 use Rattle.saturation_line.specs.Pressure.{above623, ps_of}
-use Rattle.saturation_line.specs.declared.SaturationPressure.TheVariants.{UpTo623, Above623, Nowhere}
+use Rattle.saturation_line.specs.declared.SaturationPressure.TheVariants.{UpTo623, Above623}
 use Rattle.places.specs.Places.{wild, outside, t273, t623, t863, t1073, t2273, p_house, p_most, p_most5, beside_of, above_of, lined_of, table_of, place_pt}
-use Rattle.places.specs.declared.Place.{Place}
-use Rattle.places.specs.declared.Place.TheVariants.{Equation, Refused}
+use Rattle.refusals.specs.declared.Refusal.{Refusal}
+use Rattle.equations.specs.declared.Equation.{Equation}
 use Rattle.equations.specs.declared.Equation.TheVariants.{Region1, Region2, Region3, Region5}
 use Rattle.boundaries.specs.Boundaries.{p_b23}
 
 -- the table of 01, as 02 changes it, read downwards
-abbrev pub printed_table : Float → Float → Place
+abbrev pub printed_table : Float → Float → Result Equation Refusal
 printed_table p t =
-    cond (le t t623) (cond (le (equation28 t) p) (Equation Region1) (Equation Region2))
-    (cond (le t t863) (cond (le p (p_b23 t)) (Equation Region2) (Equation Region3))
-    (cond (le t t1073) (Equation Region2)
-    (cond (le p p_most5) (Equation Region5) (Refused 4))))
+    cond (le t t623) (Ok (cond (le (equation28 t) p) Region1 Region2))
+    (cond (le t t863) (cond (le p (p_b23 t)) (Ok Region2) (Ok Region3))
+    (cond (le t t1073) (Ok Region2)
+    (cond (le p p_most5) (Ok Region5) (Err Refusal.AboveRegion5))))
 
 -- from 273.15 K on
 table_as_printed : (p t : Float) → le t273 t ≡ true → table_of p t ≡ printed_table p t
 unfolding table_of above_of ps_of
 table_as_printed p t h = rw h (go (le t t623) (above623 t))
   where
-    go : (b w : Bool) → lined_of p t (cond b (UpTo623 (equation28 t)) (cond w (Above623 (equation28 t)) Nowhere)) ≡ cond b (beside_of p (equation28 t)) (above_of p t)
+    go : (b w : Bool) → lined_of p t (cond b (Some (UpTo623 (equation28 t))) (cond w (Some (Above623 (equation28 t))) None)) ≡ cond b (Ok (beside_of p (equation28 t))) (above_of p t)
     go true w = refl
     go false true = refl
     go false false = refl
@@ -67,12 +68,12 @@ from_273 p t w o = not-false (le t273 t) (sym (lt_is_not_le t273 t printed_numbe
 -- ---- the whole of it
 
 pub place_as_printed : (p t : Float)
-    → place_pt p t ≡ cond (wild p t) (Refused 1) (cond (outside p_house p_most p) (Refused 2) (cond (outside t273 t2273 t) (Refused 3) (printed_table p t)))
+    → place_pt p t ≡ cond (wild p t) (Err Refusal.NotFinite) (cond (outside p_house p_most p) (Err Refusal.Pressure) (cond (outside t273 t2273 t) (Err Refusal.Temperature) (printed_table p t)))
 unfolding place_pt
 place_as_printed p t = go (wild p t) (outside p_house p_most p) (outside t273 t2273 t) refl refl
   where
     go : (w o r : Bool) → wild p t ≡ w → outside t273 t2273 t ≡ r
-        → cond w (Refused 1) (cond o (Refused 2) (cond r (Refused 3) (table_of p t))) ≡ cond w (Refused 1) (cond o (Refused 2) (cond r (Refused 3) (printed_table p t)))
+        → cond w (Err Refusal.NotFinite) (cond o (Err Refusal.Pressure) (cond r (Err Refusal.Temperature) (table_of p t))) ≡ cond w (Err Refusal.NotFinite) (cond o (Err Refusal.Pressure) (cond r (Err Refusal.Temperature) (printed_table p t)))
     go true o r e f = refl
     go false true r e f = refl
     go false false true e f = refl

@@ -2,6 +2,8 @@
 use mathlib.Core.Path.{◌≡◌, refl, ap, sym, ◌∙◌}
 use mathlib.Core.Bool.{Bool, true, false, false≢true, cond}
 use lib.Ieee.{Float, nan, inf, fin, is_nan, lt, le}
+use Rattle.std.specs.Prelude.{Result, Ok, Err}
+use Rattle.refusals.specs.declared.Refusal.{Refusal}
 use Rattle.equations.specs.declared.Phase.TheVariants.{Liquid, Vapour}
 use Rattle.saturation_line.specs.Printed.{ts_of}
 use Rattle.workings.specs.declared.Given.{Given}
@@ -16,20 +18,23 @@ below_nan nan = refl
 below_nan (inf s) = refl
 below_nan (fin s m e) = refl
 
-abbrev is_liquid : Side → Bool
-is_liquid (Side.Phase Liquid) = true
-is_liquid (Side.Phase Vapour) = false
-is_liquid (Side.Wet t) = false
-is_liquid (Side.Refused n) = false
+abbrev is_liquid : Result Side Refusal → Bool
+is_liquid (Ok (Side.Phase Liquid)) = true
+is_liquid (Ok (Side.Phase Vapour)) = false
+is_liquid (Ok (Side.Wet t)) = false
+is_liquid (Err refusal) = false
 
-either : (b : Bool) (x y : Side) → is_liquid x ≡ false → is_liquid y ≡ false → is_liquid (cond b x y) ≡ false
+either : (b : Bool) (x y : Result Side Refusal) → is_liquid x ≡ false → is_liquid y ≡ false → is_liquid (cond b x y) ≡ false
 either true x y h k = h
 either false x y h k = k
 
-saturated_nan : (given : Given) (p y : Float) → ts_of p ≡ nan → is_liquid (saturated_of given p y) ≡ false
+saturated_nan : (given : Given) (p y : Float) → ts_of p ≡ nan → is_liquid (Ok (saturated_of given p y)) ≡ false
 unfolding saturated_of
-saturated_nan given p y e =
-    rw (e, liquid_at_nan given p, below_nan y) (either (le y (property_at given Vapour p nan)) (Side.Wet nan) (Side.Phase Vapour) refl refl)
+saturated_nan given p y e = rw (e, liquid_at_nan given p, below_nan y) (wet_or_vapour (le y (property_at given Vapour p nan)))
+  where
+    wet_or_vapour : (b : Bool) → is_liquid (Ok (cond b (Side.Wet nan) (Side.Phase Vapour))) ≡ false
+    wet_or_vapour true = refl
+    wet_or_vapour false = refl
 
 place_nan : (given : Given) (p y : Float) → saturates p ≡ true → ts_of p ≡ nan → is_liquid (place_py given p y) ≡ false
 unfolding place_py ranged_of
@@ -37,11 +42,11 @@ place_nan given p y up_to_lem e =
     let saturated = saturated_nan given p y e in
     let low = outside (property_at given Liquid p t273) (property_at given Vapour p t1073) y in
     rw up_to_lem
-    (either (wild p y) (Side.Refused 1) _ refl
-    (either (outside p_triple p_most p) (Side.Refused 2) _ refl
-    (either low (Side.Refused 6) (saturated_of given p y) refl saturated)))
+    (either (wild p y) (Err Refusal.NotFinite) _ refl
+    (either (outside p_triple p_most p) (Err Refusal.Pressure) _ refl
+    (either low (Err Refusal.EnthalpyOrEntropy) (Ok (saturated_of given p y)) refl saturated)))
 
-pub line_known : (given : Given) (p y : Float) → saturates p ≡ true → place_py given p y ≡ Side.Phase Liquid → is_nan (ts_of p) ≡ false
+pub line_known : (given : Given) (p y : Float) → saturates p ≡ true → place_py given p y ≡ Ok (Side.Phase Liquid) → is_nan (ts_of p) ≡ false
 unfolding is_nan
 line_known given p y up_to_lem place = go (ts_of p) refl
   where

@@ -12,10 +12,10 @@ use Rattle.places.proofs.ranges.wild.Kinds as wild_kinds
 use Rattle.places.proofs.ranges.wild.Reads as wild
 use Rattle.places.proofs.tables.place_pt.Kinds as place_pt_kinds
 use Rattle.places.proofs.tables.place_pt.Reads as place_pt_reads
-use Rattle.places.proofs.tables.place_py.Kinds as place_py_kinds
-use Rattle.places.proofs.tables.place_py.Reads as place_py_reads
-use Rattle.places.proofs.tables.standing_py.Kinds as standing_py_kinds
-use Rattle.places.proofs.tables.standing_py.Reads as standing_py_reads
+use Rattle.places.proofs.standings.place_py.Kinds as place_py_kinds
+use Rattle.places.proofs.standings.place_py.Reads as place_py_reads
+use Rattle.places.proofs.standings.standing_py.Kinds as standing_py_kinds
+use Rattle.places.proofs.standings.standing_py.Reads as standing_py_reads
 
 pub place_pt_only : Only 0 place_pt_kinds.ps place_pt_kinds.r place_pt_reads.Post
 place_pt_only κs a x y s t p q = p ∙ sym q

@@ -1,19 +1,20 @@
 -- Where a query lies: the region table of (p,T), and the regions of (p,h) and (p,s). Refusals come in the order of the refusal table. Definitions only.
 -- A comparison with NaN is false.
-use Rattle.std.specs.Prelude.{Bool, false, cond, not, ◌||◌, Float}
+use Rattle.std.specs.Prelude.{Bool, false, cond, not, ◌||◌, Float, Option, Some, None, Result, Ok, Err}
 use Rattle.std.specs.Float.Ieee.{lt, le}
 use Rattle.arith.specs.F64.{f64}
 use Rattle.arith.specs.Printed.{less, printed}
 use Rattle.arith.specs.Bits.{finite}
+use Rattle.refusals.specs.declared.Refusal.{Refusal}
 use Rattle.saturation_line.specs.Printed.{ts_of}
 use Rattle.saturation_line.specs.Pressure.{ps_of}
 use Rattle.saturation_line.specs.declared.SaturationPressure.{SaturationPressure}
-use Rattle.saturation_line.specs.declared.SaturationPressure.TheVariants.{UpTo623, Above623, Nowhere}
+use Rattle.saturation_line.specs.declared.SaturationPressure.TheVariants.{UpTo623, Above623}
 use Rattle.boundaries.specs.Boundaries.{p_b23, t_b23}
-use Rattle.places.specs.declared.Place.{Place}
-use Rattle.places.specs.declared.Place.TheVariants.{Equation, Refused}
 use Rattle.places.specs.declared.Side.{Side}
+use Rattle.equations.specs.declared.Equation.{Equation}
 use Rattle.equations.specs.declared.Equation.TheVariants.{Region1, Region2, Region3, Region5}
+use Rattle.equations.specs.declared.Phase.{Phase}
 use Rattle.equations.specs.declared.Phase.TheVariants.{Liquid, Vapour}
 use Rattle.workings.specs.declared.Given.{Given}
 use Rattle.workings.specs.Workings.{property_at}
@@ -56,14 +57,14 @@ abbrev pub p_most5 : Float
 p_most5 = f64 50
 
 -- P = ps(623.15), at the last temperature at which the saturation line parts regions 1 and 2
-unfoldable pub p_end : SaturationPressure
+unfoldable pub p_end : Option SaturationPressure
 p_end = ps_of t623
 
 -- whether p is at most a saturation pressure of the case up to 623.15 K; of the other case, or of none, it is not
-abbrev pub up_to : SaturationPressure → Float → Bool
-up_to (UpTo623 ps) p = le p ps
-up_to (Above623 ps) p = false
-up_to Nowhere p = false
+abbrev pub up_to : Option SaturationPressure → Float → Bool
+up_to (Some (UpTo623 ps)) p = le p ps
+up_to (Some (Above623 ps)) p = false
+up_to None p = false
 
 -- p ≤ P
 unfoldable pub saturates : Float → Bool
@@ -72,30 +73,30 @@ saturates p = up_to p_end p
 -- ---- (p,T)
 
 -- up to 623.15 K, by the saturation pressure
-abbrev pub beside_of : Float → Float → Place
-beside_of p ps = cond (le ps p) (Equation Region1) (Equation Region2)
+abbrev pub beside_of : Float → Float → Equation
+beside_of p ps = cond (le ps p) Region1 Region2
 
 -- above that, read downwards
-unfoldable pub above_of : Float → Float → Place
+unfoldable pub above_of : Float → Float → Result Equation Refusal
 above_of p t =
-    cond (le t t863) (cond (le p (p_b23 t)) (Equation Region2) (Equation Region3))
-    (cond (le t t1073) (Equation Region2)
-    (cond (le p p_most5) (Equation Region5) (Refused 4)))
+    cond (le t t863) (cond (le p (p_b23 t)) (Ok Region2) (Ok Region3))
+    (cond (le t t1073) (Ok Region2)
+    (cond (le p p_most5) (Ok Region5) (Err Refusal.AboveRegion5)))
 
 -- The region table of a T in its range: up to 623.15 K by the saturation pressure; above that, whether there still is one or none, its value is not used.
-abbrev pub lined_of : Float → Float → SaturationPressure → Place
-lined_of p t (UpTo623 ps) = beside_of p ps
-lined_of p t (Above623 ps) = above_of p t
-lined_of p t Nowhere = above_of p t
+abbrev pub lined_of : Float → Float → Option SaturationPressure → Result Equation Refusal
+lined_of p t (Some (UpTo623 ps)) = Ok (beside_of p ps)
+lined_of p t (Some (Above623 ps)) = above_of p t
+lined_of p t None = above_of p t
 
-unfoldable pub table_of : Float → Float → Place
+unfoldable pub table_of : Float → Float → Result Equation Refusal
 table_of p t = lined_of p t (ps_of t)
 
-unfoldable pub place_pt : Float → Float → Place
+unfoldable pub place_pt : Float → Float → Result Equation Refusal
 place_pt p t =
-    cond (wild p t) (Refused 1)
-    (cond (outside p_house p_most p) (Refused 2)
-    (cond (outside t273 t2273 t) (Refused 3)
+    cond (wild p t) (Err Refusal.NotFinite)
+    (cond (outside p_house p_most p) (Err Refusal.Pressure)
+    (cond (outside t273 t2273 t) (Err Refusal.Temperature)
     (table_of p t)))
 
 -- ---- (p,h) and (p,s): y is the h or s given
@@ -107,24 +108,28 @@ saturated_of given p y =
     (cond (le y (property_at given Vapour p (ts_of p))) (Side.Wet (ts_of p))
     (Side.Phase Vapour))
 
--- p > P: between the liquid up to 623.15 K and the vapour from the boundary B23 on lies region 3, which is refused by 5
-unfoldable pub dense_of : Given → Float → Float → Side
+-- p > P: between the liquid up to 623.15 K and the vapour from the boundary B23 on lies region 3, which is refused
+unfoldable pub dense_of : Given → Float → Float → Result Phase Refusal
 dense_of given p y =
-    cond (le y (property_at given Liquid p t623)) (Side.Phase Liquid)
-    (cond (le (property_at given Vapour p (t_b23 p)) y) (Side.Phase Vapour)
-    (Side.Refused 5))
+    cond (le y (property_at given Liquid p t623)) (Ok Liquid)
+    (cond (le (property_at given Vapour p (t_b23 p)) y) (Ok Vapour)
+    (Err Refusal.Region3))
+
+abbrev pub in_phase : Result Phase Refusal → Result Side Refusal
+in_phase (Ok phase) = Ok (Side.Phase phase)
+in_phase (Err refusal) = Err refusal
 
 -- y runs from that of region 1 at 273.15 K to that of region 2 at 1073.15 K
-unfoldable pub ranged_of : Given → Float → Float → Side
+unfoldable pub ranged_of : Given → Float → Float → Result Side Refusal
 ranged_of given p y =
-    cond (outside (property_at given Liquid p t273) (property_at given Vapour p t1073) y) (Side.Refused 6)
-    (cond (saturates p) (saturated_of given p y)
-    (dense_of given p y))
+    cond (outside (property_at given Liquid p t273) (property_at given Vapour p t1073) y) (Err Refusal.EnthalpyOrEntropy)
+    (cond (saturates p) (Ok (saturated_of given p y))
+    (in_phase (dense_of given p y)))
 
-unfoldable pub place_py : Given → Float → Float → Side
+unfoldable pub place_py : Given → Float → Float → Result Side Refusal
 place_py given p y =
-    cond (wild p y) (Side.Refused 1)
-    (cond (outside p_triple p_most p) (Side.Refused 2)
+    cond (wild p y) (Err Refusal.NotFinite)
+    (cond (outside p_triple p_most p) (Err Refusal.Pressure)
     (ranged_of given p y))
 
 -- the temperature at which region 1 ends, and at which region 2 begins: the saturation line up to P, region 3's boundaries above

@@ -6,34 +6,27 @@
 
 mod limits;
 mod ranges;
+mod standings;
 mod tables;
 
-use equations::{Equation, Phase};
+use equations::Phase;
 pub use limits::{P_TRIPLE, T273, T1073, liquid_end, saturates, vapour_start};
 pub use ranges::wild;
-pub use tables::{place_pt, place_py, standing_py};
+pub use standings::{place_py, standing_py};
+pub use tables::place_pt;
 
-// The equation of a (p,T), or the refusal.
-#[derive(Clone, Copy)]
-pub enum Place {
-    Equation(Equation),
-    Refused(u64),
-}
-
-// Where p and an h or s lie: in one phase, wet at a temperature in K, or the refusal.
+// Where p and an h or s lie: in one phase, or wet at a temperature in K.
 #[derive(Clone, Copy)]
 pub enum Side {
     Phase(Phase),
     Wet(f64),
-    Refused(u64),
 }
 
 // How p and an h or s stand to the saturation line: up to P in one phase beside Ts(p), in K, or wet at it;
-// above P, beyond where the line parts regions 1 and 2, in one phase; or the refusal.
+// above P, beyond where the line parts regions 1 and 2, in one phase.
 #[derive(Clone, Copy)]
 pub enum Standing {
     Beside { phase: Phase, saturated: f64 },
     Wet(f64),
     Beyond(Phase),
-    Refused(u64),
 }

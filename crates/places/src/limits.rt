@@ -43,6 +43,7 @@ pub fn liquid_end(p: f64) -> f64
 }
 
 // The temperature in K at which region 2 begins at p: on the saturation line up to P.
+#[tactic(auto, unfolding(crate::specs::Places::vapour_start))]
 pub fn vapour_start(p: f64) -> f64
     ensures { result ≡ vapour_start p }
 {

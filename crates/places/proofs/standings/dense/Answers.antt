@@ -1,9 +1,9 @@
--- `places::tables::dense` meets its contract: each return stands under the tests that led there. Assumes nothing.
+-- `places::standings::dense` meets its contract: each return stands under the tests that led there. Assumes nothing.
 use mathlib.Core.Path.{refl}
 use lib.Ieee.{round, of_bits}
 use Rattle.arith.specs.Printed.{printed}
 use Rattle.places.specs.Places.{dense_of}
-use Rattle.places.proofs.tables.dense.Goals as goal
+use Rattle.places.proofs.standings.dense.Goals as goal
 
 pub returns-then-y-property : goal.returns-then-y-property
 unfolding dense_of printed round of_bits
