@@ -9,4 +9,4 @@ use Rattle.dense.proofs.region3.Region3.six.Goals as goal
 
 pub returns : goal.returns
 unfolding rows table3 printed round of_bits neg
-returns c = lent_six table3 _ _ c.six_sums.ensures refl
+returns c = lent_six table3 _ _ c.six.ensures refl
