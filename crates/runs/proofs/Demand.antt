@@ -11,9 +11,12 @@ use Rattle.brackets.specs.declared.Bracket.{Bracket}
 use Rattle.settle.specs.declared.Settled.{Settled}
 use Rattle.ledger.specs.declared.Desk.{Desk}
 use Rattle.runs.specs.declared.Answer.{Answer}
-use Rattle.runs.specs.declared.Answer.TheVariants.{Refused, Ticket, Halved, Idle, Shown, State, Freed}
+use Rattle.std.specs.Prelude.{Result, Ok, Err}
+use Rattle.refusals.specs.declared.Refusal.{Refusal}
+use Rattle.refusals.specs.Refusals.{number_in}
+use Rattle.runs.specs.declared.Answer.TheVariants.{Ticket, Halved, Idle, Shown, State}
 use Rattle.ledger.specs.Rows.{blank, row, counted, held, of_caller, vacant, unfinished, tally, lowest, sound}
-use Rattle.runs.specs.Answers.{number_of, whole, kelvin, state, values_of, Tells}
+use Rattle.runs.specs.Answers.{whole, kelvin, state, values_of, Tells}
 use Rattle.runs.specs.Model.{new_desk, query_of, settle, emptied}
 use Rattle.ledger.proofs.Tests.{unfinished_is}
 use Rattle.ledger.proofs.Changes.{row_here}
@@ -54,12 +57,12 @@ pub same_for_one_in_1600 : (c : ℕ) (xs ys : List Call) → c < 8 → own_calls
 same_for_one_in_1600 c xs ys l e u v = same_for_one c xs ys l e (waits_for_any c xs u) (waits_for_any c ys v)
 
 -- Patience can always be met: 32 · n turns after its post for n halvings, whoever else calls what, an open ticket's collect gives a state.
-pub ready_in_time : (c t kind : ℕ) (p y : Float) (number : ℕ) (pre since : List Call) → c < 8 → answer_to pre (post c kind p y number) ≡ Ticket t
+pub ready_in_time : (c t kind : ℕ) (p y : Float) (number : ℕ) (pre since : List Call) → c < 8 → answer_to pre (post c kind p y number) ≡ Ok (Ticket t)
     → OpenFor c t (after (pre ++ post c kind p y number ∷ since)) → enough_for number ≤ turns since → Gives (answer_to (pre ++ post c kind p y number ∷ since) (collect c t))
 ready_in_time = collect_ready
 
 -- So 1,600 turns make any job ready.
-pub ready_in_1600 : (c t kind : ℕ) (p y : Float) (number : ℕ) (pre since : List Call) → c < 8 → answer_to pre (post c kind p y number) ≡ Ticket t
+pub ready_in_1600 : (c t kind : ℕ) (p y : Float) (number : ℕ) (pre since : List Call) → c < 8 → answer_to pre (post c kind p y number) ≡ Ok (Ticket t)
     → OpenFor c t (after (pre ++ post c kind p y number ∷ since)) → enough ≤ turns since → Gives (answer_to (pre ++ post c kind p y number ∷ since) (collect c t))
 ready_in_1600 c t kind p y number pre since l e o m =
     let run = pre ++ post c kind p y number ∷ since in
@@ -78,7 +81,7 @@ ticket_once = one_post
 
 -- Each state collected, in any run, was posted for, and is that of n halvings of the bracket of the query that was posted, n the number that its post named; the
 -- number and the bracket handed out with it are that n and what the halvings left.
-pub state_collected : (c t : ℕ) (run : List Call) (s : Settled) (n : ℕ) (lo hi : Float) → answer_to run (collect c t) ≡ State s n lo hi
+pub state_collected : (c t : ℕ) (run : List Call) (s : Settled) (n : ℕ) (lo hi : Float) → answer_to run (collect c t) ≡ Ok (State s n lo hi)
     → Origin c t run × ((o : Origin c t run) → (n ≡ o.number) × SettledTo o.kind o.p o.y n (record { lo = lo; hi = hi }) s)
 state_collected c t run s n lo hi e =
     let f = collected (after run) c t s n lo hi e in (
@@ -86,12 +89,12 @@ state_collected c t run s n lo hi e =
       λ o.
           collect_at_lem c t o.kind o.p o.y o.number _ (after (o.pre ++ post c o.kind o.p o.y o.number ∷ o.since))
           (followed c t o.kind o.p o.y o.number o.pre o.since o.posted.1) s n lo hi
-          (subst (λ (b : List Call). answer_to b (collect c t) ≡ State s n lo hi) o.posted.0 e),
+          (subst (λ (b : List Call). answer_to b (collect c t) ≡ Ok (State s n lo hi)) o.posted.0 e),
     )
 
 -- A peek after n halvings shows the bracket that n halvings give of that query's; and n is the number of turns that the ticket's row received since its
 -- post, at most the number posted.
-pub bracket_shown : (c t : ℕ) (run : List Call) (n : ℕ) (lo hi : Float) → answer_to run (peek c t) ≡ Shown n lo hi
+pub bracket_shown : (c t : ℕ) (run : List Call) (n : ℕ) (lo hi : Float) → answer_to run (peek c t) ≡ Ok (Shown n lo hi)
     → Origin c t run
     × ((o : Origin c t run)
     → HalvedTo o.kind o.p o.y n (record { lo = lo; hi = hi })
@@ -102,7 +105,7 @@ bracket_shown c t run n lo hi e =
       open_posted c t run (f.at, f.seat.place, f.seat.has),
       λ o.
           let d = after (o.pre ++ post c o.kind o.p o.y o.number ∷ o.since) in
-          let q = subst (λ (b : List Call). answer_to b (peek c t) ≡ Shown n lo hi) o.posted.0 e in
+          let q = subst (λ (b : List Call). answer_to b (peek c t) ≡ Ok (Shown n lo hi)) o.posted.0 e in
           let w = followed c t o.kind o.p o.y o.number o.pre o.since o.posted.1 in (
             peek_at_lem c t o.kind o.p o.y o.number _ d w n lo hi q,
             peek_received c t o.kind o.p o.y o.number o.pre o.since n lo hi o.posted.1 q,
@@ -163,24 +166,24 @@ module _ (d : Desk) (long : length d.rows ≡ 32) (wide : length d.counts ≡ 8)
   row_is_free c l h = free_row d good.rows c l h
 
   -- A post that gets a ticket gets its caller's own count, which goes one on, and a row of the desk that it leaves holds what was asked.
-  pub post_by_row : (c kind : ℕ) (p y : Float) (number t : ℕ) → (step d (post c kind p y number)).answer ≡ Ticket t
+  pub post_by_row : (c kind : ℕ) (p y : Float) (number t : ℕ) → (step d (post c kind p y number)).answer ≡ Ok (Ticket t)
       → (t ≡ counted d c)
       × (counted (step d (post c kind p y number)).desk c ≡ t + 1)
       × ((o : OpenFor c t (step d (post c kind p y number)).desk) × JustPosted kind p y number (row (step d (post c kind p y number)).desk o.0))
   post_by_row = post_row d good
 
   -- A turn halves where some row has halvings to go, and where none has it says so and leaves the desk as it was.
-  pub turn_halves : (i : ℕ) → i < 32 → unfinished (row d i) ≡ true → (step d turn).answer ≡ Halved
+  pub turn_halves : (i : ℕ) → i < 32 → unfinished (row d i) ≡ true → (step d turn).answer ≡ Ok Halved
   turn_halves = busy d good
 
-  pub turn_idle : ((i : ℕ) → i < 32 → unfinished (row d i) ≡ false) → ((step d turn).answer ≡ Idle) × ((step d turn).desk ≡ d)
+  pub turn_idle : ((i : ℕ) → i < 32 → unfinished (row d i) ≡ false) → ((step d turn).answer ≡ Ok Idle) × ((step d turn).desk ≡ d)
   turn_idle = idle d good
 
   -- The calls that name a ticket, and the turn that comes to its row, go by what that row holds, however it came there. Where row i is that of caller c's
   -- ticket t:
   module _ (c t i : ℕ) (place : i < 32) (has : held c t (row d i) ≡ true) where
     -- the turn that comes to it says halved, halves its own bracket, once, and counts one; any other leaves it as it is;
-    pub turn_by_row : goes_to c t d turn ≡ true → ((step d turn).answer ≡ Halved) × HalvedOnce (row d i) (row (step d turn).desk i)
+    pub turn_by_row : goes_to c t d turn ≡ true → ((step d turn).answer ≡ Ok Halved) × HalvedOnce (row d i) (row (step d turn).desk i)
     turn_by_row = turn_row d good c t i place has
 
     pub turn_elsewhere : goes_to c t d turn ≡ false → row (step d turn).desk i ≡ row d i
@@ -221,22 +224,17 @@ module _ (d : Desk) (long : length d.rows ≡ 32) (wide : length d.counts ≡ 8)
 -- ---- on every desk
 
 -- A refused call leaves the desk as it was.
-pub refused_keeps : (d : Desk) (x : Call) (n : ℕ) → (step d x).answer ≡ Refused n → (step d x).desk ≡ d
+pub refused_keeps : (d : Desk) (x : Call) (n : Refusal) → (step d x).answer ≡ Err n → (step d x).desk ≡ d
 refused_keeps = keeps
 
 -- So a call that answers a number other than 0 says that number only: it hands out nothing and leaves the desk as it was.
-pub numbered_keeps : (d : Desk) (x : Call) → 0 < number_of (step d x).answer → Tells (step d x) (number_of (step d x).answer) [] d
+pub numbered_keeps : (d : Desk) (x : Call) → 0 < number_in (step d x).answer → Tells (step d x) (number_in (step d x).answer) [] d
 numbered_keeps d x l = go (step d x).answer refl l
   where
-    go : (a : Answer) → (step d x).answer ≡ a → 0 < number_of a → Tells (step d x) (number_of (step d x).answer) [] d
-    go (Refused n) e h = record { number = refl; values = ap values_of e; leaves = refused_keeps d x n e }
-    go (Ticket t) e h = absurd (omega arith)
-    go Halved e h = absurd (omega arith)
-    go Idle e h = absurd (omega arith)
-    go (Shown n lo hi) e h = absurd (omega arith)
-    go (State s n lo hi) e h = absurd (omega arith)
-    go Freed e h = absurd (omega arith)
+    go : (a : Result Answer Refusal) → (step d x).answer ≡ a → 0 < number_in a → Tells (step d x) (number_in (step d x).answer) [] d
+    go (Err n) e h = record { number = refl; values = ap values_of e; leaves = refused_keeps d x n e }
+    go (Ok a) e h = absurd (omega arith)
 
 -- The number is that of the first test that fails, in the order of specs/Refusals.
-pub refused_in_order : (d : Desk) (x : Call) → number_of (step d x).answer ≡ first_of (tests_of d x)
+pub refused_in_order : (d : Desk) (x : Call) → number_in (step d x).answer ≡ first_of (tests_of d x)
 refused_in_order = in_order

@@ -13,8 +13,8 @@ use Rattle.settle.proofs.Phases.{phase_region}
 use Rattle.ledger.specs.declared.Row.{Row}
 use Rattle.ledger.specs.declared.Desk.{Desk}
 use Rattle.runs.specs.declared.Answer.{Answer}
-use Rattle.runs.specs.declared.Open.{Open}
-use Rattle.runs.specs.declared.Open.TheVariants.{At, Closed}
+use Rattle.std.specs.Prelude.{Result, Ok, Err}
+use Rattle.refusals.specs.declared.Refusal.{Refusal}
 use Rattle.ledger.specs.Search.{bit}
 use Rattle.ledger.specs.Rows.{most, blank, row, counted, held, of_caller, vacant, unfinished, tally, lowest, put}
 use Rattle.runs.specs.Model.{new_desk, answers, refuse, fresh, halved_row, next, past, turned_at, turn_of, open_of, emptied, peek_at, collect_at, withdraw_at, peek_of, collect_of, withdraw_of}
@@ -188,23 +188,23 @@ effect d g turn = rw (good_sound d g) (go (ltb (next d) 32) refl)
     go false e = idled (ltb-false (next d) 32 e)
 effect d g (peek c t) = go (open_of d c t)
   where
-    go : (o : Open) → Effect d (peek c t) (peek_at d o).desk
-    go (Closed n) = kept (peek c t) refl
-    go (At i) = kept (peek c t) refl
+    go : (o : Result ℕ Refusal) → Effect d (peek c t) (peek_at d o).desk
+    go (Err n) = kept (peek c t) refl
+    go (Ok i) = kept (peek c t) refl
 effect d g (collect c t) = go (open_of d c t) refl
   where
-    done : (i : ℕ) → Seat d c t i → (b : Bool) (a : Answer) → Effect d (collect c t) (cond b (refuse 12 d) (answers a (emptied d i))).desk
+    done : (i : ℕ) → Seat d c t i → (b : Bool) (a : Answer) → Effect d (collect c t) (cond b (refuse Refusal.NotReady d) (answers a (emptied d i))).desk
     done i s true a = kept (collect c t) refl
     done i s false a = freed (collect c t) refl c t (λ _. refl) i s
 
-    go : (o : Open) → open_of d c t ≡ o → Effect d (collect c t) (collect_at d o).desk
-    go (Closed n) e = kept (collect c t) refl
-    go (At i) e = done i (open_seat d c t i e) (ltb (row d i).halvings (row d i).number) _
+    go : (o : Result ℕ Refusal) → open_of d c t ≡ o → Effect d (collect c t) (collect_at d o).desk
+    go (Err n) e = kept (collect c t) refl
+    go (Ok i) e = done i (open_seat d c t i e) (ltb (row d i).halvings (row d i).number) _
 effect d g (withdraw c t) = go (open_of d c t) refl
   where
-    go : (o : Open) → open_of d c t ≡ o → Effect d (withdraw c t) (withdraw_at d o).desk
-    go (Closed n) e = kept (withdraw c t) refl
-    go (At i) e = freed (withdraw c t) refl c t (λ _. refl) i (open_seat d c t i e)
+    go : (o : Result ℕ Refusal) → open_of d c t ≡ o → Effect d (withdraw c t) (withdraw_at d o).desk
+    go (Err n) e = kept (withdraw c t) refl
+    go (Ok i) e = freed (withdraw c t) refl c t (λ _. refl) i (open_seat d c t i e)
 
 good_effect : (d e : Desk) (x : Call) → Good d → Effect d x e → Good e
 good_effect d e x g (kept y h) = g

@@ -12,7 +12,8 @@ use borrow.Author.Tests.{ltb-true, ltb-false, le-ltb}
 use Rattle.equations.specs.declared.Phase.{Phase}
 use Rattle.brackets.specs.Brackets.{times}
 use Rattle.brackets.specs.declared.Bracket.{Bracket}
-use Rattle.settle.specs.declared.Judged.TheVariants.{Within}
+use Rattle.std.specs.Prelude.{Result, Ok, Err}
+use Rattle.refusals.specs.declared.Refusal.{Refusal}
 use Rattle.settle.specs.declared.Settled.{Settled}
 use Rattle.settle.specs.Settle.{judged_of}
 use Rattle.ledger.specs.declared.Row.{Row}
@@ -20,8 +21,6 @@ use Rattle.ledger.specs.declared.Desk.{Desk}
 use Rattle.runs.specs.declared.Outcome.{Outcome}
 use Rattle.runs.specs.declared.Answer.{Answer}
 use Rattle.runs.specs.declared.Answer.TheVariants.{Ticket, Shown, State}
-use Rattle.runs.specs.declared.Open.{Open}
-use Rattle.runs.specs.declared.Open.TheVariants.{At, Closed}
 use Rattle.ledger.specs.Rows.{row, counted, held, of_caller, vacant, tally, lowest}
 use Rattle.runs.specs.Model.{new_desk, answers, refuse, Query, query_of, bracket_of, halve, settle, fresh, open_of, emptied, peek_at, collect_at, peek_of, collect_of}
 use Rattle.settle.proofs.Phases.{phase_kept}
@@ -72,7 +71,7 @@ pub record Got (d : Desk) (c k : ℕ) (p y : Float) (number t : ℕ) : Type 0 wh
   pub own : counted d c ≡ t
   pub leaves : (step d (post c k p y number)).desk ≡ seats d c job
 
-pub got : (d : Desk) → Good d → (c k : ℕ) (p y : Float) (number t : ℕ) → (step d (post c k p y number)).answer ≡ Ticket t → Got d c k p y number t
+pub got : (d : Desk) → Good d → (c k : ℕ) (p y : Float) (number t : ℕ) → (step d (post c k p y number)).answer ≡ Ok (Ticket t) → Got d c k p y number t
 got d g c k p y number t e = go (ruling_at d c k p y number) refl
   where
     go : (r : Ruling) → ruling_at d c k p y number ≡ r → Got d c k p y number t
@@ -91,7 +90,7 @@ query_fresh : (c t : ℕ) (q : Query) (number : ℕ) (b : Bracket) → query_of 
 query_fresh c t q number b = ap (λ (phase : Phase). asked q.kind phase q.p q.y) (phase_kept q.phase)
 
 -- the count goes one on, and the row that was free holds what was asked
-pub post_row : (d : Desk) → Good d → (c k : ℕ) (p y : Float) (number t : ℕ) → (step d (post c k p y number)).answer ≡ Ticket t
+pub post_row : (d : Desk) → Good d → (c k : ℕ) (p y : Float) (number t : ℕ) → (step d (post c k p y number)).answer ≡ Ok (Ticket t)
     → (t ≡ counted d c)
     × (counted (step d (post c k p y number)).desk c ≡ t + 1)
     × ((o : OpenFor c t (step d (post c k p y number)).desk) × JustPosted k p y number (row (step d (post c k p y number)).desk o.0))
@@ -148,11 +147,11 @@ pub record Followed (c t k : ℕ) (p y : Float) (number age : ℕ) (d : Desk) : 
   pub good : Good d
   pub job : Job
   pub query : job.query ≡ asked k job.query.phase p y
-  pub judged_to : judged_of k p y ≡ Within job.query.phase job.bracket.lo job.bracket.hi
+  pub judged_to : judged_of k p y ≡ Ok (record { phase = job.query.phase; lo = job.bracket.lo; hi = job.bracket.hi })
   pub number_posted : job.number ≡ number
   pub tracked : Tracked c t job 0 age d
 
-pub followed : (c t k : ℕ) (p y : Float) (number : ℕ) (pre since : List Call) → answer_to pre (post c k p y number) ≡ Ticket t → Followed c t k p y number (turns since) (after (pre ++ post c k p y number ∷ since))
+pub followed : (c t k : ℕ) (p y : Float) (number : ℕ) (pre since : List Call) → answer_to pre (post c k p y number) ≡ Ok (Ticket t) → Followed c t k p y number (turns since) (after (pre ++ post c k p y number ∷ since))
 unfolding after_from
 followed c t k p y number pre since e =
     rw (after_append new_desk pre (post c k p y number ∷ since)) (record {
@@ -190,13 +189,13 @@ module _ (d : Desk) (c t : ℕ) where
     pub halvings : (row d at).halvings ≡ n
     pub bracket : bracket_of (row d at) ≡ record { lo = lo; hi = hi }
 
-  pub peeked : (n : ℕ) (lo hi : Float) → (step d (peek c t)).answer ≡ Shown n lo hi → Peeked n lo hi
+  pub peeked : (n : ℕ) (lo hi : Float) → (step d (peek c t)).answer ≡ Ok (Shown n lo hi) → Peeked n lo hi
   unfolding peek_of peek_at
   peeked n lo hi e = go (open_of d c t) refl e
     where
-      go : (o : Open) → open_of d c t ≡ o → (peek_at d o).answer ≡ Shown n lo hi → Peeked n lo hi
-      go (Closed m) q f = absurd (let z : ◌≡◌ {A = ℕ} 0 1 = cc in omega arith)
-      go (At i) q f =
+      go : (o : Result ℕ Refusal) → open_of d c t ≡ o → (peek_at d o).answer ≡ Ok (Shown n lo hi) → Peeked n lo hi
+      go (Err m) q f = absurd (let z : ◌≡◌ {A = ℕ} 0 1 = cc in omega arith)
+      go (Ok i) q f =
           let a : (row d i).lo ≡ lo = cc in
           let b : (row d i).hi ≡ hi = cc in
           record { at = i; seat = open_seat d c t i q; halvings = cc; bracket = rw (a, b) }
@@ -209,21 +208,21 @@ module _ (d : Desk) (c t : ℕ) where
     pub number : (row d at).number ≡ n
     pub bracket : bracket_of (row d at) ≡ record { lo = lo; hi = hi }
 
-  pub collected : (s : Settled) (n : ℕ) (lo hi : Float) → (step d (collect c t)).answer ≡ State s n lo hi → Collected s n lo hi
+  pub collected : (s : Settled) (n : ℕ) (lo hi : Float) → (step d (collect c t)).answer ≡ Ok (State s n lo hi) → Collected s n lo hi
   unfolding collect_of collect_at
   collected s n lo hi e = go (open_of d c t) refl e
     where
       done : (i : ℕ) → Seat d c t i → (b : Bool) → ltb (row d i).halvings (row d i).number ≡ b
-          → (cond b (refuse 12 d) (answers (handed_at d i) (emptied d i))).answer ≡ State s n lo hi → Collected s n lo hi
+          → (cond b (refuse Refusal.NotReady d) (answers (handed_at d i) (emptied d i))).answer ≡ Ok (State s n lo hi) → Collected s n lo hi
       done i k true q f = absurd (let z : ◌≡◌ {A = ℕ} 0 1 = cc in omega arith)
       done i k false q f =
           let a : (row d i).lo ≡ lo = cc in
           let b : (row d i).hi ≡ hi = cc in
           record { at = i; seat = k; ready = ltb-false (row d i).halvings (row d i).number q; state = cc; number = cc; bracket = rw (a, b) }
 
-      go : (o : Open) → open_of d c t ≡ o → (collect_at d o).answer ≡ State s n lo hi → Collected s n lo hi
-      go (Closed m) q f = absurd (let z : ◌≡◌ {A = ℕ} 0 1 = cc in omega arith)
-      go (At i) q f = done i (open_seat d c t i q) (ltb (row d i).halvings (row d i).number) refl f
+      go : (o : Result ℕ Refusal) → open_of d c t ≡ o → (collect_at d o).answer ≡ Ok (State s n lo hi) → Collected s n lo hi
+      go (Err m) q f = absurd (let z : ◌≡◌ {A = ℕ} 0 1 = cc in omega arith)
+      go (Ok i) q f = done i (open_seat d c t i q) (ltb (row d i).halvings (row d i).number) refl f
 
 -- ---- the promises of one job
 
@@ -266,16 +265,16 @@ module _ (c t k : ℕ) (p y : Float) (number age : ℕ) (d : Desk) (w : Followed
           let f = w.tracked.fits i s.place s.has in
           absurd (omega (arith, number_kept i s, f.counts, f.pace m))
 
-  pub peek_at_lem : (n : ℕ) (lo hi : Float) → (step d (peek c t)).answer ≡ Shown n lo hi → HalvedTo k p y n (record { lo = lo; hi = hi })
+  pub peek_at_lem : (n : ℕ) (lo hi : Float) → (step d (peek c t)).answer ≡ Ok (Shown n lo hi) → HalvedTo k p y n (record { lo = lo; hi = hi })
   peek_at_lem n lo hi e = let f = peeked d c t n lo hi e in rw (f.halvings, f.bracket) at (shown f.at f.seat)
 
-  pub peek_within : (n : ℕ) (lo hi : Float) → (step d (peek c t)).answer ≡ Shown n lo hi → n ≤ number
+  pub peek_within : (n : ℕ) (lo hi : Float) → (step d (peek c t)).answer ≡ Ok (Shown n lo hi) → n ≤ number
   peek_within n lo hi e =
       let f = peeked d c t n lo hi e in
       let s = f.seat in
       omega (arith, f.halvings, number_kept f.at s, (w.good.rows.each f.at s.place (held_is c (row d f.at) t s.has).0).within)
 
-  pub collect_at_lem : (s : Settled) (n : ℕ) (lo hi : Float) → (step d (collect c t)).answer ≡ State s n lo hi
+  pub collect_at_lem : (s : Settled) (n : ℕ) (lo hi : Float) → (step d (collect c t)).answer ≡ Ok (State s n lo hi)
       → (n ≡ number) × SettledTo k p y n (record { lo = lo; hi = hi }) s
   collect_at_lem s n lo hi e =
       let f = collected d c t s n lo hi e in
@@ -291,7 +290,7 @@ module _ (c t k : ℕ) (p y : Float) (number age : ℕ) (d : Desk) (w : Followed
       (s, rw (e, le-ltb (row d (lowest (held c t) d)).halvings (row d (lowest (held c t) d)).number r))
 
 -- 32 turns for each halving after its post an open ticket's collect gives a state
-pub collect_ready : (c t k : ℕ) (p y : Float) (number : ℕ) (pre since : List Call) → c < 8 → answer_to pre (post c k p y number) ≡ Ticket t
+pub collect_ready : (c t k : ℕ) (p y : Float) (number : ℕ) (pre since : List Call) → c < 8 → answer_to pre (post c k p y number) ≡ Ok (Ticket t)
     → OpenFor c t (after (pre ++ post c k p y number ∷ since)) → enough_for number ≤ turns since → Gives (answer_to (pre ++ post c k p y number ∷ since) (collect c t))
 collect_ready c t k p y number pre since l e o n =
     let d = after (pre ++ post c k p y number ∷ since) in

@@ -6,6 +6,8 @@ use Prim.Native.Nat.{ℕ, ◌+◌, ◌%◌, ◌<◌}
 use native.Mathlib.Omega.{arith}
 use lib.ListN.{set}
 use Rattle.ledger.specs.declared.Desk.{Desk}
+use Rattle.std.specs.Prelude.{Result, Ok}
+use Rattle.refusals.specs.declared.Refusal.{Refusal}
 use Rattle.runs.specs.declared.Answer.{Answer}
 use Rattle.runs.specs.declared.Answer.TheVariants.{Ticket}
 use Rattle.ledger.specs.Rows.{blank, row, counted, held, vacant, lowest}
@@ -47,7 +49,7 @@ origins_effect c run d e x s g o (seated c' k p y number j w r) =
     (λ q. new t (held_fresh c t c' (counted d c') j q))
     (λ i l ne q. later c t run (post c' k p y number) (o t i l q))
   where
-    given_to : answer_to run (post c' k p y number) ≡ Ticket (counted d c')
+    given_to : answer_to run (post c' k p y number) ≡ Ok (Ticket (counted d c'))
     given_to = ap (λ (v : Desk). (post_of v c' k p y number).answer) s ∙ rw (post_ruled d c' k p y number (good_sound d g), r)
 
     new : (t : ℕ) → (c' ≡ c) × (counted d c' ≡ t) → Origin c t (run ++ post c' k p y number ∷ [])
@@ -58,7 +60,7 @@ origins_effect c run d e x s g o (seated c' k p y number j w r) =
       p = p;
       y = y;
       number = number;
-      posted = (ap (λ (v : ℕ). run ++ post v k p y number ∷ []) q.0, subst (λ (v : ℕ). answer_to run (post v k p y number) ≡ Ticket t) q.0 (given_to ∙ ap {B = Answer} Ticket q.1));
+      posted = (ap (λ (v : ℕ). run ++ post v k p y number ∷ []) q.0, subst (λ (v : ℕ). answer_to run (post v k p y number) ≡ Ok (Ticket t)) q.0 (given_to ∙ ap {B = Result Answer Refusal} (λ (v : ℕ). Ok (Ticket v)) q.1));
     }
 origins_effect c run d e x s g o (freed y h c' t' w i k) =
     λ t. row_each d i blank d.counts d.pointer (λ n r. held c t r ≡ true → Origin c t (run ++ x ∷ [])) g.long k.place

@@ -8,8 +8,9 @@ use lib.Dec.{leb, ltb}
 use lib.Ieee.{Float}
 use borrow.Author.Tests.{ltb-true, leb-true}
 use Rattle.brackets.specs.declared.Bracket.{Bracket}
+use Rattle.std.specs.Prelude.{Result, Ok, Err}
+use Rattle.refusals.specs.declared.Refusal.{Refusal}
 use Rattle.settle.specs.declared.Judged.{Judged}
-use Rattle.settle.specs.declared.Judged.TheVariants.{Refused, Within}
 use Rattle.settle.specs.Settle.{judged_of}
 use Rattle.ledger.specs.declared.Desk.{Desk}
 use Rattle.runs.specs.declared.Outcome.{Outcome}
@@ -27,17 +28,19 @@ pub record Job : Type 0 where
   pub bracket : Bracket
 
 pub data Ruling : Type 0 where
-  against : ℕ → Ruling
+  against : Refusal → Ruling
   given : Job → Ruling
 
 -- n tickets given, m open
-abbrev ruled_on : ℕ → Float → Float → ℕ → ℕ → ℕ → Judged → Ruling
-ruled_on k p y number n m (Refused e) = against e
-ruled_on k p y number n m (Within r lo hi) =
-    cond (ltb n most) (cond (ltb m 4) (given (record { query = asked k r p y; number = number; bracket = record { lo = lo; hi = hi } })) (against 10)) (against 13)
+abbrev ruled_on : ℕ → Float → Float → ℕ → ℕ → ℕ → Result Judged Refusal → Ruling
+ruled_on k p y number n m (Err e) = against e
+ruled_on k p y number n m (Ok j) =
+    cond (ltb n most)
+    (cond (ltb m 4) (given (record { query = asked k j.phase p y; number = number; bracket = record { lo = j.lo; hi = j.hi } })) (against Refusal.FourOpen))
+    (against Refusal.TicketsSpent)
 
 unfoldable pub ruling : ℕ → ℕ → Float → Float → ℕ → ℕ → ℕ → Ruling
-ruling c k p y number n m = cond (known c k number) (ruled_on k p y number n m (judged_of k p y)) (against 9)
+ruling c k p y number n m = cond (known c k number) (ruled_on k p y number n m (judged_of k p y)) (against Refusal.UnknownNumber)
 
 -- the ruling on a post to the desk d
 abbrev pub ruling_at : Desk → ℕ → ℕ → Float → Float → ℕ → Ruling
@@ -55,13 +58,13 @@ pub post_ruled : (d : Desk) (c k : ℕ) (p y : Float) (number : ℕ) → sound d
 unfolding post_of judged_post admitted ruling
 post_ruled d c k p y number s = rw s (go (known c k number) (judged_of k p y) (ltb (counted d c) most) (ltb (tally (of_caller c) d) 4) refl refl)
   where
-    go : (b : Bool) (j : Judged) (u v : Bool) → ltb (counted d c) most ≡ u → ltb (tally (of_caller c) d) 4 ≡ v
-        → cond b (judged_post d c k p y number j) (refuse 9 d) ≡ on_ruling d c (cond b (ruled_on k p y number (counted d c) (tally (of_caller c) d) j) (against 9))
+    go : (b : Bool) (j : Result Judged Refusal) (u v : Bool) → ltb (counted d c) most ≡ u → ltb (tally (of_caller c) d) 4 ≡ v
+        → cond b (judged_post d c k p y number j) (refuse Refusal.UnknownNumber d) ≡ on_ruling d c (cond b (ruled_on k p y number (counted d c) (tally (of_caller c) d) j) (against Refusal.UnknownNumber))
     go false j u v hu hv = refl
-    go true (Refused n) u v hu hv = refl
-    go true (Within r lo hi) false v hu hv = rw hu refl
-    go true (Within r lo hi) true false hu hv = rw (hu, hv) refl
-    go true (Within r lo hi) true true hu hv = rw (hu, hv) refl
+    go true (Err n) u v hu hv = refl
+    go true (Ok j) false v hu hv = rw hu refl
+    go true (Ok j) true false hu hv = rw (hu, hv) refl
+    go true (Ok j) true true hu hv = rw (hu, hv) refl
 
 -- what the test before any value says
 pub record Known (c k number : ℕ) : Type 0 where
@@ -91,29 +94,29 @@ pub record Granted (c k : ℕ) (p y : Float) (number n m : ℕ) (j : Job) : Type
   pub number_high : number ≤ 50
   pub number_posted : j.number ≡ number
   pub query : j.query ≡ asked k j.query.phase p y
-  pub judged_to : judged_of k p y ≡ Within j.query.phase j.bracket.lo j.bracket.hi
+  pub judged_to : judged_of k p y ≡ Ok (record { phase = j.query.phase; lo = j.bracket.lo; hi = j.bracket.hi })
 
 pub ruling_given : (c k : ℕ) (p y : Float) (number n m : ℕ) (j : Job) → ruling c k p y number n m ≡ given j → Granted c k p y number n m j
 unfolding ruling
 ruling_given c k p y number n m j e = go (known c k number) refl (judged_of k p y) refl (ltb n most) refl (ltb m 4) refl
   where
-    go : (b : Bool) → known c k number ≡ b → (q : Judged) → judged_of k p y ≡ q → (u : Bool) → ltb n most ≡ u → (v : Bool) → ltb m 4 ≡ v → Granted c k p y number n m j
+    go : (b : Bool) → known c k number ≡ b → (q : Result Judged Refusal) → judged_of k p y ≡ q → (u : Bool) → ltb n most ≡ u → (v : Bool) → ltb m 4 ≡ v → Granted c k p y number n m j
     go false x q w u hu v hv = absurd (let f = rw x at e in let z : ◌≡◌ {A = ℕ} 0 1 = cc in omega arith)
-    go true x (Refused o) w u hu v hv = absurd (let f = rw (x, w) at e in let z : ◌≡◌ {A = ℕ} 0 1 = cc in omega arith)
-    go true x (Within r lo hi) w false hu v hv = absurd (let f = rw (x, w, hu) at e in let z : ◌≡◌ {A = ℕ} 0 1 = cc in omega arith)
-    go true x (Within r lo hi) w true hu false hv = absurd (let f = rw (x, w, hu, hv) at e in let z : ◌≡◌ {A = ℕ} 0 1 = cc in omega arith)
-    go true x (Within r lo hi) w true hu true hv =
+    go true x (Err o) w u hu v hv = absurd (let f = rw (x, w) at e in let z : ◌≡◌ {A = ℕ} 0 1 = cc in omega arith)
+    go true x (Ok a) w false hu v hv = absurd (let f = rw (x, w, hu) at e in let z : ◌≡◌ {A = ℕ} 0 1 = cc in omega arith)
+    go true x (Ok a) w true hu false hv = absurd (let f = rw (x, w, hu, hv) at e in let z : ◌≡◌ {A = ℕ} 0 1 = cc in omega arith)
+    go true x (Ok a) w true hu true hv =
         let f = rw (x, w, hu, hv) at e in
-        let same : ◌≡◌ {A = Job} (record { query = asked k r p y; number = number; bracket = record { lo = lo; hi = hi } }) j = cc in
-        let a = known_is c k number x in
+        let same : ◌≡◌ {A = Job} (record { query = asked k a.phase p y; number = number; bracket = record { lo = a.lo; hi = a.hi } }) j = cc in
+        let known = known_is c k number x in
         subst (λ (i : Job). Granted c k p y number n m i) same (record {
-          who = a.who;
+          who = known.who;
           room = ltb-true n most hu;
           spare = ltb-true m 4 hv;
-          kind_low = a.kind_low;
-          kind_high = a.kind_high;
-          number_low = a.number_low;
-          number_high = a.number_high;
+          kind_low = known.kind_low;
+          kind_high = known.kind_high;
+          number_low = known.number_low;
+          number_high = known.number_high;
           number_posted = refl;
           query = refl;
           judged_to = w;

@@ -11,6 +11,7 @@ use lib.Seq.{get_or-set_same}
 use lib.Ieee.{Float}
 use borrow.Author.Tests.{lt-ltb, le-ltb}
 use Rattle.ledger.specs.declared.Desk.{Desk}
+use Rattle.std.specs.Prelude.{Ok}
 use Rattle.runs.specs.declared.Answer.TheVariants.{Ticket, Shown}
 use Rattle.ledger.specs.Search.{bit}
 use Rattle.ledger.specs.Rows.{blank, row, counted, held, of_caller, vacant, tally, lowest}
@@ -84,14 +85,14 @@ module _ (c t : ℕ) where
         (seat_free d g c k p y number j w) (λ q. refl) (λ i l ne q. absurd (omega (arith, was_given d g c t i l q)));
   }
 
-  pub peek_received : (k : ℕ) (p y : Float) (number : ℕ) (pre since : List Call) (n : ℕ) (lo hi : Float) → answer_to pre (post c k p y number) ≡ Ticket t
-      → answer_to (pre ++ post c k p y number ∷ since) (peek c t) ≡ Shown n lo hi → n ≡ received c t (after (pre ++ post c k p y number ∷ [])) since
+  pub peek_received : (k : ℕ) (p y : Float) (number : ℕ) (pre since : List Call) (n : ℕ) (lo hi : Float) → answer_to pre (post c k p y number) ≡ Ok (Ticket t)
+      → answer_to (pre ++ post c k p y number ∷ since) (peek c t) ≡ Ok (Shown n lo hi) → n ≡ received c t (after (pre ++ post c k p y number ∷ [])) since
   unfolding after_from
   peek_received k p y number pre since n lo hi e q =
       let w = got d₀ g₀ c k p y number t e in
       let o : Has 0 d = rw w.leaves (has_fresh d₀ g₀ k p y number w.job w.granted w.own) in
       let v = after_from d since in
-      let z = peeked v c t n lo hi (subst (λ (v : Desk). (step v (peek c t)).answer ≡ Shown n lo hi) (after_append new_desk pre (post c k p y number ∷ since)) q) in
+      let z = peeked v c t n lo hi (subst (λ (v : Desk). (step v (peek c t)).answer ≡ Ok (Shown n lo hi)) (after_append new_desk pre (post c k p y number ∷ since)) q) in
       let s = z.seat in
       let one = ap (λ (v : Desk). received c t v since) (after_append new_desk pre (post c k p y number ∷ [])) in
       omega (arith, z.halvings, one, (has_run 0 d since g o).has z.at s.place s.has)

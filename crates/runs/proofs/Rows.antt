@@ -9,8 +9,8 @@ use lib.Dec.{ltb}
 use borrow.Author.Tests.{le-ltb, lt-ltb}
 use Rattle.ledger.specs.declared.Desk.{Desk}
 use Rattle.runs.specs.declared.Answer.TheVariants.{Halved, Idle}
-use Rattle.runs.specs.declared.Open.{Open}
-use Rattle.runs.specs.declared.Open.TheVariants.{At}
+use Rattle.std.specs.Prelude.{Result, Ok}
+use Rattle.refusals.specs.declared.Refusal.{Refusal}
 use Rattle.ledger.specs.Rows.{row, held, unfinished, onward, lowest}
 use Rattle.runs.specs.Answers.{whole, kelvin, state, Tells}
 use Rattle.runs.specs.Model.{answers, query_of, settle, halved_row, next, past, turned_at, turn_of, open_of, emptied, peek_at, collect_at, withdraw_at, peek_of, collect_of, withdraw_of}
@@ -29,7 +29,7 @@ module _ (d : Desk) (g : Good d) where
   to_go k = unfinished (row d ((d.pointer + k) % 32))
 
   -- a turn where some row has, and where none has
-  pub busy : (i : ℕ) → i < 32 → unfinished (row d i) ≡ true → (step d turn).answer ≡ Halved
+  pub busy : (i : ℕ) → i < 32 → unfinished (row d i) ≡ true → (step d turn).answer ≡ Ok Halved
   unfolding turn_of onward
   busy i place u =
       let k = ahead d.pointer i in
@@ -37,7 +37,7 @@ module _ (d : Desk) (g : Good d) where
       let first = least_le to_go 32 k near (rw (ahead_back d.pointer i g.points place) u) in
       rw (good_sound d g, lt-ltb (next d) 32 (omega arith))
 
-  pub idle : ((i : ℕ) → i < 32 → unfinished (row d i) ≡ false) → ((step d turn).answer ≡ Idle) × ((step d turn).desk ≡ d)
+  pub idle : ((i : ℕ) → i < 32 → unfinished (row d i) ≡ false) → ((step d turn).answer ≡ Ok Idle) × ((step d turn).desk ≡ d)
   unfolding turn_of onward
   idle none = rw (good_sound d g, least_none to_go 32 (λ k l. none ((d.pointer + k) % 32) (omega arith))) (refl, refl)
 
@@ -47,11 +47,11 @@ module _ (d : Desk) (g : Good d) (c t i : ℕ) (place : i < 32) (has : held c t 
   known = let o = held_is c (row d i) t has in omega (arith, o.1, (g.rows.each i place o.0).known)
 
   -- the row that a search for the ticket finds is this one
-  opened : open_of d c t ≡ At i
+  opened : open_of d c t ≡ Ok i
   opened =
       let e = seat_open d c t (good_sound d g) known i (record { place = place; has = has }) in
       let s = open_seat d c t (lowest (held c t) d) e in
-      e ∙ ap {B = Open} At (one_row d g c t (lowest (held c t) d) i s.place place s.has has)
+      e ∙ ap {B = Result ℕ Refusal} (λ (n : ℕ). Ok n) (one_row d g c t (lowest (held c t) d) i s.place place s.has has)
 
   pub peek_row : Tells (step d (peek c t)) 0 (whole (row d i).halvings ∷ kelvin (row d i).lo ∷ kelvin (row d i).hi ∷ []) d
   unfolding peek_of peek_at
@@ -73,7 +73,7 @@ module _ (d : Desk) (g : Good d) (c t i : ℕ) (place : i < 32) (has : held c t 
   withdraw_row = rw opened (record { number = refl; values = refl; leaves = refl })
 
   -- the turn that comes to the row
-  pub turn_row : goes_to c t d turn ≡ true → ((step d turn).answer ≡ Halved) × HalvedOnce (row d i) (row (step d turn).desk i)
+  pub turn_row : goes_to c t d turn ≡ true → ((step d turn).answer ≡ Ok Halved) × HalvedOnce (row d i) (row (step d turn).desk i)
   unfolding turn_of
   turn_row e =
       let o = and_true (ltb (next d) 32) (held c t (row d ((d.pointer + next d) % 32))) e in

@@ -17,8 +17,9 @@ use Rattle.ledger.specs.declared.Row.{Row}
 use Rattle.ledger.specs.declared.Desk.{Desk}
 use Rattle.runs.specs.declared.Outcome.{Outcome}
 use Rattle.runs.specs.declared.Answer.{Answer}
-use Rattle.runs.specs.declared.Answer.TheVariants.{Refused, Ticket, Idle, Freed}
-use Rattle.runs.specs.declared.Open.TheVariants.{Closed}
+use Rattle.std.specs.Prelude.{Result, Ok, Err}
+use Rattle.refusals.specs.declared.Refusal.{Refusal}
+use Rattle.runs.specs.declared.Answer.TheVariants.{Ticket, Idle, Freed}
 use Rattle.ledger.specs.Rows.{blank, row, counted, held, of_caller, vacant, tally, lowest, put}
 use Rattle.runs.specs.Model.{new_desk, answers, refuse, Query, query_of, bracket_of, halve, fresh, halved_row, next, past, open_of, emptied, collect_at, withdraw_at, collect_of, withdraw_of}
 use Rattle.ledger.proofs.Search.{not_some}
@@ -44,7 +45,7 @@ record Solo : Type 0 where
 
 record Reply : Type 0 where
   next : Solo
-  answer : Answer
+  answer : Result Answer Refusal
 
 abbrev assign : ℕ → Option Job → (ℕ → Option Job) → ℕ → Option Job
 assign n v f t = cond (eqb t n) v (f t)
@@ -60,17 +61,17 @@ abbrev final : Job → Answer
 final j = handed j.query j.number (times (halve j.query) j.number j.bracket)
 
 abbrev ruled : Solo → Ruling → Reply
-ruled m (against n) = record { next = m; answer = Refused n }
-ruled m (given j) = record { next = added m j; answer = Ticket m.count }
+ruled m (against n) = record { next = m; answer = Err n }
+ruled m (given j) = record { next = added m j; answer = Ok (Ticket m.count) }
 
 abbrev at_job : Solo → ℕ → (Job → Answer) → Option Job → Reply
-at_job m t f none = record { next = m; answer = Refused 11 }
-at_job m t f (some j) = record { next = dropped m t; answer = f j }
+at_job m t f none = record { next = m; answer = Err Refusal.NotOpen }
+at_job m t f (some j) = record { next = dropped m t; answer = Ok (f j) }
 
 solo : Solo → Call → Reply
 solo m (post c k p y number) = ruled m (ruling c k p y number m.count m.opened)
-solo m turn = record { next = m; answer = Idle }
-solo m (peek c t) = record { next = m; answer = Idle }
+solo m turn = record { next = m; answer = Ok Idle }
+solo m (peek c t) = record { next = m; answer = Ok Idle }
 solo m (collect c t) = at_job m t final (m.jobs t)
 solo m (withdraw c t) = at_job m t (λ j. Freed) (m.jobs t)
 
@@ -193,7 +194,7 @@ own_post c k p y number d m g o h = go (ruling_at d c k p y number) refl
     by (against n) e s u = goes c d m (post c k p y number) (refuse n d) (ruled m (against n)) s u refl o (tracks_step c d m (post c k p y number) g h)
     by (given j) e s u =
         let w = ruling_given c k p y number (counted d c) (tally (of_caller c) d) j e in
-        goes c d m (post c k p y number) (on_ruling d c (given j)) (ruled m (given j)) s u (ap {B = Answer} Ticket o.counts) (like_added c k p y number d m j g o w)
+        goes c d m (post c k p y number) (on_ruling d c (given j)) (ruled m (given j)) s u (ap {B = Result Answer Refusal} (λ (n : ℕ). Ok (Ticket n)) o.counts) (like_added c k p y number d m j g o w)
         (tracks_added c k p y number d (step d (post c k p y number)).desk m j g o w (ap (λ (z : Outcome). z.desk) s) (tracks_step c d m (post c k p y number) g h))
 
     go : (r : Ruling) → ruling_at d c k p y number ≡ r → Goes c d m (post c k p y number)
@@ -226,7 +227,7 @@ tracks_dropped c t e m h u i q = go (eqb u t) refl q
     go false n f = h u i f
 
 -- a ticket that is not open, and one that is
-not_open : (c t : ℕ) (d : Desk) → Good d → c < 8 → tally (held c t) d ≡ 0 → open_of d c t ≡ Closed 11
+not_open : (c t : ℕ) (d : Desk) → Good d → c < 8 → tally (held c t) d ≡ 0 → open_of d c t ≡ Err Refusal.NotOpen
 unfolding open_of
 not_open c t d g l e = rw (good_sound d g, lt-ltb c 8 l, le-ltb (lowest (held c t) d) 32 (none_lowest (held c t) d e))
 
@@ -239,7 +240,7 @@ own_withdraw c t d m l g o h = go (m.jobs t) refl
   where
     go : (b : Option Job) → m.jobs t ≡ b → Goes c d m (withdraw c t)
     go none e =
-        goes c d m (withdraw c t) (refuse 11 d) (at_job m t (λ j. Freed) none) (rw (not_open c t d g l (o.here t ∙ ap size e))) (rw e) refl o
+        goes c d m (withdraw c t) (refuse Refusal.NotOpen d) (at_job m t (λ j. Freed) none) (rw (not_open c t d g l (o.here t ∙ ap size e))) (rw e) refl o
         (tracks_step c d m (withdraw c t) g h)
     go (some j) e =
         let s = found c t d (o.here t ∙ ap size e) in
@@ -273,7 +274,7 @@ own_collect c t d m l g o h w = go (m.jobs t) refl
 
     go : (b : Option Job) → m.jobs t ≡ b → Goes c d m (collect c t)
     go none e =
-        goes c d m (collect c t) (refuse 11 d) (at_job m t final none) (rw (not_open c t d g l (o.here t ∙ ap size e))) (rw e) refl o
+        goes c d m (collect c t) (refuse Refusal.NotOpen d) (at_job m t final none) (rw (not_open c t d g l (o.here t ∙ ap size e))) (rw e) refl o
         (tracks_step c d m (collect c t) g h)
     go (some j) e =
         let s = found c t d (o.here t ∙ ap size e) in
@@ -285,7 +286,7 @@ own_collect c t d m l g o h w = go (m.jobs t) refl
         let full : f.more ≡ j.number = omega (arith, f.counts, f.number_posted, (g.rows.each i s.place (held_is c (row d i) t s.has).0).within) in
         let b : bracket_of (row d i) ≡ times (halve j.query) j.number j.bracket = f.halved_to ∙ ap (λ (n : ℕ). times (halve j.query) n j.bracket) full in
         goes c d m (collect c t) (answers (handed_at d i) (emptied d i)) (at_job m t final (some j)) r.1 (rw e)
-        (handed_final d i j f.same f.number_posted b) (like_dropped c t i d m g o s) (tracks_dropped c t (step d (collect c t)).desk m (tracks_step c d m (collect c t) g h))
+        (ap {B = Result Answer Refusal} (λ (a : Answer). Ok a) (handed_final d i j f.same f.number_posted b)) (like_dropped c t i d m g o s) (tracks_dropped c t (step d (collect c t)).desk m (tracks_step c d m (collect c t) g h))
 
 -- ---- a whole run
 

@@ -6,7 +6,8 @@ use native.Mathlib.Omega.{arith}
 use lib.Dec.{ltb}
 use borrow.Author.Tests.{ltb-true, lt-ltb}
 use Rattle.ledger.specs.declared.Desk.{Desk}
-use Rattle.runs.specs.declared.Open.TheVariants.{At, Closed}
+use Rattle.std.specs.Prelude.{Ok, Err}
+use Rattle.refusals.specs.declared.Refusal.{Refusal}
 use Rattle.ledger.specs.Rows.{row, held, tally, lowest, sound}
 use Rattle.runs.specs.Model.{open_of}
 use Rattle.ledger.proofs.Search.{counted_once}
@@ -19,12 +20,12 @@ pub record Seat (d : Desk) (c t i : ℕ) : Type 0 where
   pub has : held c t (row d i) ≡ true
 
 module _ (d : Desk) (c t : ℕ) where
-  pub open_seat : (i : ℕ) → open_of d c t ≡ At i → Seat d c t i
+  pub open_seat : (i : ℕ) → open_of d c t ≡ Ok i → Seat d c t i
   unfolding open_of
   open_seat i e = go (sound d) (ltb c 8) (ltb (lowest (held c t) d) 32) refl e
     where
       go : (u v w : Bool) → ltb (lowest (held c t) d) 32 ≡ w
-          → cond u (cond v (cond w (At (lowest (held c t) d)) (Closed 11)) (Closed 9)) (Closed 15) ≡ At i → Seat d c t i
+          → cond u (cond v (cond w (Ok (lowest (held c t) d)) (Err Refusal.NotOpen)) (Err Refusal.UnknownNumber)) (Err Refusal.UnsoundDesk) ≡ Ok i → Seat d c t i
       go false v w q e = absurd (let z : ◌≡◌ {A = ℕ} 0 1 = cc in omega arith)
       go true false w q e = absurd (let z : ◌≡◌ {A = ℕ} 0 1 = cc in omega arith)
       go true true false q e = absurd (let z : ◌≡◌ {A = ℕ} 0 1 = cc in omega arith)
@@ -34,7 +35,7 @@ module _ (d : Desk) (c t : ℕ) where
           subst (λ (j : ℕ). Seat d c t j) s (record { place = m; has = lowest_true (held c t) d m })
 
   -- on a sound desk a caller finds the row that is its ticket's
-  pub seat_open : sound d ≡ true → c < 8 → (i : ℕ) → Seat d c t i → open_of d c t ≡ At (lowest (held c t) d)
+  pub seat_open : sound d ≡ true → c < 8 → (i : ℕ) → Seat d c t i → open_of d c t ≡ Ok (lowest (held c t) d)
   unfolding open_of
   seat_open s k i o = rw (s, lt-ltb c 8 k, lt-ltb (lowest (held c t) d) 32 (omega (arith, o.place, lowest_le (held c t) d i o.place o.has)))
 

@@ -1,6 +1,7 @@
 -- The desk by its rules: for each call the answer and the desk that it leaves. Definitions only.
 -- Of the settling layer this knows only what it publishes: a query judged, one halving, the state at the end, and how a row names a phase.
-use Rattle.std.specs.Prelude.{ℕ, ◌+◌, ◌%◌, Bool, true, cond, ◌&&◌, ltb, set, replicate, Float}
+use Rattle.std.specs.Prelude.{ℕ, ◌+◌, ◌%◌, Bool, true, Result, Ok, Err, cond, ◌&&◌, ltb, set, replicate, Float}
+use Rattle.refusals.specs.declared.Refusal.{Refusal}
 use Rattle.ledger.specs.declared.Row.{Row}
 use Rattle.ledger.specs.declared.Desk.{Desk}
 use Rattle.ledger.specs.Rows.{most, blank, row, counted, held, of_caller, vacant, unfinished, tally, onward, lowest, put, between, nameable, sound}
@@ -12,8 +13,6 @@ use Rattle.settle.specs.Settle.{judged_of, halved_of, settled_of}
 use Rattle.equations.specs.declared.Phase.{Phase}
 use Rattle.runs.specs.declared.Answer.{Answer}
 use Rattle.runs.specs.declared.Outcome.{Outcome}
-use Rattle.runs.specs.declared.Open.{Open}
-use Rattle.runs.specs.declared.Open.TheVariants.{At, Closed}
 
 -- ---- a new desk
 
@@ -24,10 +23,10 @@ new_desk = record { rows = replicate 32 blank; counts = replicate 8 0; pointer =
 -- ---- answers
 
 abbrev pub answers : Answer → Desk → Outcome
-answers a d = record { answer = a; desk = d }
+answers a d = record { answer = Ok a; desk = d }
 
-abbrev pub refuse : ℕ → Desk → Outcome
-refuse n d = answers (Answer.Refused n) d
+abbrev pub refuse : Refusal → Desk → Outcome
+refuse n d = record { answer = Err n; desk = d }
 
 -- ---- queries and their brackets
 
@@ -77,14 +76,14 @@ seated d r = put d (lowest vacant d) r (set d.counts r.caller (r.ticket + 1)) d.
 unfoldable pub admitted : Desk → Row → Outcome
 admitted d r =
     cond (ltb r.ticket most)
-    (cond (ltb (tally (of_caller r.caller) d) 4) (answers (Answer.Ticket r.ticket) (seated d r)) (refuse 10 d))
-    (refuse 13 d)
+    (cond (ltb (tally (of_caller r.caller) d) 4) (answers (Answer.Ticket r.ticket) (seated d r)) (refuse Refusal.FourOpen d))
+    (refuse Refusal.TicketsSpent d)
 
 -- the ticket is the caller's own count
-unfoldable pub judged_post : Desk → ℕ → ℕ → Float → Float → ℕ → Judged → Outcome
-judged_post d c kind p y number (Judged.Refused n) = refuse n d
-judged_post d c kind p y number (Judged.Within phase lo hi) =
-    admitted d (fresh c (counted d c) (record { kind = kind; phase = phase; p = p; y = y }) number (record { lo = lo; hi = hi }))
+unfoldable pub judged_post : Desk → ℕ → ℕ → Float → Float → ℕ → Result Judged Refusal → Outcome
+judged_post d c kind p y number (Err n) = refuse n d
+judged_post d c kind p y number (Ok j) =
+    admitted d (fresh c (counted d c) (record { kind = kind; phase = j.phase; p = p; y = y }) number (record { lo = j.lo; hi = j.hi }))
 
 -- a caller, a kind and a number of halvings that a post may name; no value is looked at before they are found so
 unfoldable pub known : ℕ → ℕ → ℕ → Bool
@@ -92,7 +91,7 @@ known c kind number = ltb c 8 && (between 2 3 kind && nameable number)
 
 unfoldable pub post_of : Desk → ℕ → ℕ → Float → Float → ℕ → Outcome
 post_of d c kind p y number =
-    cond (sound d) (cond (known c kind number) (judged_post d c kind p y number (judged_of kind p y)) (refuse 9 d)) (refuse 15 d)
+    cond (sound d) (cond (known c kind number) (judged_post d c kind p y number (judged_of kind p y)) (refuse Refusal.UnknownNumber d)) (refuse Refusal.UnsoundDesk d)
 
 -- ---- turn
 
@@ -129,33 +128,35 @@ unfoldable pub turn_of : Desk → Outcome
 turn_of d =
     cond (sound d)
     (cond (ltb (next d) 32) (answers Answer.Halved (turned_at d ((d.pointer + next d) % 32))) (answers Answer.Idle d))
-    (refuse 15 d)
+    (refuse Refusal.UnsoundDesk d)
 
 -- ---- peek, collect, withdraw
 
 -- the row of a ticket, or the refusal of a call that names it
-unfoldable pub open_of : Desk → ℕ → ℕ → Open
+unfoldable pub open_of : Desk → ℕ → ℕ → Result ℕ Refusal
 open_of d c t =
-    cond (sound d) (cond (ltb c 8) (cond (ltb (lowest (held c t) d) 32) (At (lowest (held c t) d)) (Closed 11)) (Closed 9)) (Closed 15)
+    cond (sound d)
+    (cond (ltb c 8) (cond (ltb (lowest (held c t) d) 32) (Ok (lowest (held c t) d)) (Err Refusal.NotOpen)) (Err Refusal.UnknownNumber))
+    (Err Refusal.UnsoundDesk)
 
 -- row i is as in a new desk
 abbrev pub emptied : Desk → ℕ → Desk
 emptied d i = put d i blank d.counts d.pointer
 
-unfoldable pub peek_at : Desk → Open → Outcome
-peek_at d (Closed n) = refuse n d
-peek_at d (At i) = answers (Answer.Shown (row d i).halvings (row d i).lo (row d i).hi) d
+unfoldable pub peek_at : Desk → Result ℕ Refusal → Outcome
+peek_at d (Err n) = refuse n d
+peek_at d (Ok i) = answers (Answer.Shown (row d i).halvings (row d i).lo (row d i).hi) d
 
-unfoldable pub collect_at : Desk → Open → Outcome
-collect_at d (Closed n) = refuse n d
-collect_at d (At i) =
+unfoldable pub collect_at : Desk → Result ℕ Refusal → Outcome
+collect_at d (Err n) = refuse n d
+collect_at d (Ok i) =
     cond (ltb (row d i).halvings (row d i).number)
-    (refuse 12 d)
+    (refuse Refusal.NotReady d)
     (answers (Answer.State (settle (query_of (row d i)) (bracket_of (row d i))) (row d i).number (row d i).lo (row d i).hi) (emptied d i))
 
-unfoldable pub withdraw_at : Desk → Open → Outcome
-withdraw_at d (Closed n) = refuse n d
-withdraw_at d (At i) = answers Answer.Freed (emptied d i)
+unfoldable pub withdraw_at : Desk → Result ℕ Refusal → Outcome
+withdraw_at d (Err n) = refuse n d
+withdraw_at d (Ok i) = answers Answer.Freed (emptied d i)
 
 unfoldable pub peek_of : Desk → ℕ → ℕ → Outcome
 peek_of d c t = peek_at d (open_of d c t)

@@ -1,7 +1,8 @@
 -- When a call of the desk is refused, and with which number: the tests of each call in the order in which they count. Definitions only.
-use Rattle.std.specs.Prelude.{Bool, cond, not, List, [], ◌∷◌, ℕ, ltb}
+use Rattle.std.specs.Prelude.{Bool, Result, is_ok, cond, not, List, [], ◌∷◌, ℕ, ltb}
 use Rattle.settle.specs.declared.Judged.{Judged}
-use Rattle.settle.specs.Answers.{number_of, is_refused}
+use Rattle.refusals.specs.declared.Refusal.{Refusal}
+use Rattle.refusals.specs.Refusals.{number_in}
 use Rattle.settle.specs.Settle.{judged_of}
 use Rattle.ledger.specs.declared.Desk.{Desk}
 use Rattle.ledger.specs.Rows.{most, row, counted, held, of_caller, tally, lowest, between, sound}
@@ -17,8 +18,8 @@ first_of [] = 0
 first_of (unless b n ∷ rest) = cond b (first_of rest) n
 
 -- the refusal that judging a query gives
-abbrev pub judged : Judged → Test
-judged j = unless (not (is_refused j)) (number_of j)
+abbrev pub judged : Result Judged Refusal → Test
+judged j = unless (is_ok j) (number_in j)
 
 -- 15 the desk is not sound; 9 unknown caller or kind, or a number of halvings outside 10 to 50; 13 all tickets given; 10 four open; 11 the ticket is not open for
 -- this caller; 12 not ready

@@ -1,10 +1,10 @@
 -- What is said of runs of the desk. Definitions only; `step` is made of the definitions that the contracts of the desk's calls cite, and of nothing else.
 -- A model is one caller number, which no other model uses. The theorems are in proofs/Demand.antt.
-use Rattle.std.specs.Prelude.{◌≡◌, ◌⊎◌, Bool, true, false, cond, ◌&&◌, List, [], ◌∷◌, ◌++◌, ℕ, zero, suc, ◌+◌, ◌*◌, ◌%◌, ◌≤◌, ◌<◌, eqb, ltb, Float}
+use Rattle.std.specs.Prelude.{◌≡◌, ◌⊎◌, Bool, true, false, Result, Ok, cond, ◌&&◌, List, [], ◌∷◌, ◌++◌, ℕ, zero, suc, ◌+◌, ◌*◌, ◌%◌, ◌≤◌, ◌<◌, eqb, ltb, Float}
 use Rattle.equations.specs.declared.Phase.{Phase}
 use Rattle.brackets.specs.Brackets.{times}
 use Rattle.brackets.specs.declared.Bracket.{Bracket}
-use Rattle.settle.specs.declared.Judged.TheVariants.{Within}
+use Rattle.refusals.specs.declared.Refusal.{Refusal}
 use Rattle.settle.specs.declared.Settled.{Settled}
 use Rattle.settle.specs.Settle.{judged_of, below_of}
 use Rattle.ledger.specs.declared.Row.{Row}
@@ -41,13 +41,13 @@ abbrev pub after : List Call → Desk
 after xs = after_from new_desk xs
 
 -- what a call answers at the end of a run from a new desk
-abbrev pub answer_to : List Call → Call → Answer
+abbrev pub answer_to : List Call → Call → Result Answer Refusal
 answer_to xs x = (step (after xs) x).answer
 
 -- a call of a run, with the answer that it got; a run's calls with their answers
 pub record Entry : Type 0 where
   pub call : Call
-  pub answer : Answer
+  pub answer : Result Answer Refusal
 
 unfoldable pub history_from : Desk → List Call → List Entry
 history_from d [] = []
@@ -106,7 +106,7 @@ OpenFor c t d = (i : ℕ) × (i < 32) × (held c t (row d i) ≡ true)
 
 -- the run xs is `pre`, then caller c's post of (kind, p, y) for so many halvings, which got ticket t, then `since`
 abbrev pub Posted : ℕ → ℕ → ℕ → Float → Float → ℕ → List Call → List Call → List Call → Type 0
-Posted c t kind p y number pre since xs = (xs ≡ pre ++ post c kind p y number ∷ since) × (answer_to pre (post c kind p y number) ≡ Ticket t)
+Posted c t kind p y number pre since xs = (xs ≡ pre ++ post c kind p y number ∷ since) × (answer_to pre (post c kind p y number) ≡ Ok (Ticket t))
 
 -- a post that gave caller c ticket t in a run; proofs/Demand shows that there is no other (`ticket_once`)
 pub record Origin (c t : ℕ) (run : List Call) : Type 0 where
@@ -130,12 +130,12 @@ PatientForAny c xs =
     (before rest : List Call) (t : ℕ) → xs ≡ before ++ collect c t ∷ rest → OpenFor c t (after before) → (o : Origin c t before) → enough ≤ turns o.since
 
 -- an answer that gives a state, and all that it hands out with it
-pub record Gives (a : Answer) : Type 0 where
+pub record Gives (a : Result Answer Refusal) : Type 0 where
   pub settled : Settled
   pub number : ℕ
   pub lo : Float
   pub hi : Float
-  pub given : a ≡ State settled number lo hi
+  pub given : a ≡ Ok (State settled number lo hi)
 
 -- each collect of caller c that names a ticket then open for it gives a state
 abbrev pub CollectsGive : ℕ → List Call → Type 0
@@ -151,7 +151,7 @@ asked kind phase p y = record { kind = kind; phase = phase; p = p; y = y }
 pub record HalvedTo (kind : ℕ) (p y : Float) (n : ℕ) (b : Bracket) : Type 0 where
   pub phase : Phase
   pub first : Bracket
-  pub judged_to : judged_of kind p y ≡ Within phase first.lo first.hi
+  pub judged_to : judged_of kind p y ≡ Ok (record { phase = phase; lo = first.lo; hi = first.hi })
   pub halvings : b ≡ times (halve (asked kind phase p y)) n first
 
 -- r is the row of a query just posted for so many halvings: none done, and lo and hi as judging the query gave them

@@ -5,14 +5,14 @@
 #![tactic(auto)]
 
 use ledger::Desk;
+use refusals::Refusal;
 use settle::Settled;
 
-// What a call answers: any of them a refusal number, a post a ticket, a turn that it halved or that
-// there was nothing to halve, a peek the halvings done and the bracket, a collect the state, the number of
-// halvings that were posted for and the bracket that they left, a withdraw that the row is free.
+// What a call answers that is not refused: a post a ticket, a turn that it halved or that there was
+// nothing to halve, a peek the halvings done and the bracket, a collect the state, the number of halvings
+// that were posted for and the bracket that they left, a withdraw that the row is free.
 #[derive(Clone, Copy)]
 pub enum Answer {
-    Refused(u64),
     Ticket(u64),
     Halved,
     Idle,
@@ -30,16 +30,9 @@ pub enum Answer {
     Freed,
 }
 
-// A call's answer, and the desk as it leaves it.
+// A call's answer, or why it is refused, and the desk as it leaves it: a refused call gives it back too.
 #[derive(Clone, Copy)]
 pub struct Outcome {
-    pub answer: Answer,
+    pub answer: Result<Answer, Refusal>,
     pub desk: Desk,
-}
-
-// The row of a caller's ticket, or the refusal of a call that names it.
-#[derive(Clone, Copy)]
-pub enum Open {
-    At(usize),
-    Closed(u64),
 }
