@@ -16,6 +16,11 @@ decimal_of n = decimal_from 20 n
 unfoldable pub hex_digit : ℕ → ℕ
 hex_digit d = cond (ltb d 10) (48 + d) (87 + d)
 
+-- the last k digits of n in a base up to 16, zeros in front included: those of n / base, and then the last
+unfoldable pub digits_in : ℕ → ℕ → ℕ → List ℕ
+digits_in base zero n = []
+digits_in base (suc k) n = digits_in base k (n / base) ++ hex_digit (n % base) ∷ []
+
 -- k hexadecimal digits: those of n / 16, and then the last
 unfoldable pub hex_from : ℕ → ℕ → List ℕ
 hex_from zero n = []

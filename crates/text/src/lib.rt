@@ -6,9 +6,9 @@
 
 mod plain;
 
-ghost use Rattle.std.specs.Prelude.{◌≡◌, [], ◌∷◌, ◌++◌, ◌<◌};
+ghost use Rattle.std.specs.Prelude.{◌≡◌, [], ◌∷◌, ◌++◌, ◌<◌, ◌≤◌, length};
 ghost use Rattle.text.specs.Room.{Written};
-ghost use Rattle.text.specs.Texts.{decimal_of, hex_digit, hex_of, column_of};
+ghost use Rattle.text.specs.Texts.{decimal_of, hex_digit, digits_in, hex_of, column_of};
 
 pub use plain::fixed;
 
@@ -28,8 +28,7 @@ pub fn bytes(src: &[u8], out: &mut [u8], at: usize) -> usize
 pub fn decimal(n: u64, end: u8, out: &mut [u8], at: usize) -> usize
     ensures { Written out.old at (decimal_of n ++ end ∷ []) out.new result }
 {
-    let mut text = [0u8; 21];
-    text[20] = end;
+    let mut text = [end; 21];
     let mut first = 20;
     let mut left = n;
     while left >= 10 {
@@ -54,17 +53,24 @@ fn hex_digit(d: u64) -> u8
     }
 }
 
+// Fills a text with the last digits of n in a base up to 16, zeros in front included.
+fn fill_digits(base: u64, n: u64, text: &mut [u8])
+    requires { (0 < base) × (base ≤ 16) }
+    ensures { text.new ≡ digits_in base (length text.old) n }
+{
+    let mut left = n;
+    for i in (0..text.len()).rev() {
+        text[i] = hex_digit(left % base);
+        left /= base;
+    }
+}
+
 // Writes 64 bits as 16 hexadecimal digits in lower case, and the byte that ends them.
 pub fn hex(bits: u64, end: u8, out: &mut [u8], at: usize) -> usize
     ensures { Written out.old at (hex_of bits ++ end ∷ []) out.new result }
 {
-    let mut text = [0u8; 17];
-    text[16] = end;
-    let mut left = bits;
-    for i in (0..16).rev() {
-        text[i] = hex_digit(left % 16);
-        left /= 16;
-    }
+    let mut text = [end; 17];
+    fill_digits(16, bits, &mut text[..16]);
     bytes(&text, out, at)
 }
 

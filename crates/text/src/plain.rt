@@ -16,12 +16,7 @@ fn power_of_ten(k: usize) -> u64
     requires { k ≤ 3 }
     ensures { result ≡ 10 ^ k }
 {
-    match k {
-        0 => 1,
-        1 => 10,
-        2 => 100,
-        _ => 1000,
-    }
+    10u64.pow(k as u32)
 }
 
 // The whole number nearest |x| · scale, of an x below 2^53 in size that is given by its bits. From
@@ -39,21 +34,14 @@ fn scaled(bits: u64, scale: u64) -> u64
     (digits * scale + unit / 2) / unit
 }
 
-// Writes the last k digits of n, and the byte that ends them: the last three stand ready, and k of
-// them are written.
+// Writes the last k digits of n, and the byte that ends them.
 fn last_digits(n: u64, k: usize, end: u8, out: &mut [u8], at: usize) -> usize
     requires { k ≤ 3 }
     ensures { Written out.old at (digits_from k n ++ end ∷ []) out.new result }
 {
-    let mut text = [0u8; 4];
-    text[3] = end;
-    let mut left = n;
-    for i in (0..3).rev() {
-        text[i] = (48 + left % 10) as u8;
-        left /= 10;
-    }
-    let start = 3 - k;
-    super::bytes(&text[start..], out, at)
+    let mut text = [end; 4];
+    super::fill_digits(10, n, &mut text[..k]);
+    super::bytes(&text[..k + 1], out, at)
 }
 
 // Writes n / 10^k with its k decimals, and the byte that ends them.
