@@ -10,6 +10,7 @@ use backward::{t1_ph, t1_ps, t2_ph, t2_ps};
 use boundaries::{p_2bc, p_b23, t_b23};
 use dense::Region3;
 use liquid::Region1;
+use properties::Basic;
 use saturation_line::{SaturationPressure, ps, ts};
 use std::io;
 use steam::Region2;

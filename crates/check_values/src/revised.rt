@@ -2,6 +2,7 @@
 use crate::quantities::{Point, six};
 use crate::tally::Tally;
 use hot::Region5;
+use properties::Basic;
 use std::io;
 
 // Table 42: region 5.

@@ -35,12 +35,29 @@ residual5 =
     ∷ []
 
 -- R = 0.461526 kJ/(kg K), p* = 1 MPa, T* = 1000 K
-unfoldable pub point5 : Float → Float → Point
-point5 p t = reduced_by (printed false 461526 (less 6)) (f64 1) (f64 1000) p t
+abbrev pub gas_constant5 : Float
+gas_constant5 = printed false 461526 (less 6)
 
--- Eqs. (32) to (34): the residual part is summed at π and τ, with no shift.
+abbrev pub reducing_pressure5 : Float
+reducing_pressure5 = f64 1
+
+abbrev pub reducing_temperature5 : Float
+reducing_temperature5 = f64 1000
+
+unfoldable pub point5 : Float → Float → Point
+point5 p t = reduced_by gas_constant5 reducing_pressure5 reducing_temperature5 p t
+
+-- The residual part is summed at π and τ, with no shift.
+abbrev pub shifted5 : Float → Float
+shifted5 τ = τ
+
+-- Eqs. (32) to (34), at a point
+abbrev pub vapour_at5 : Point → Vapour
+vapour_at5 x = vapour_at ideal5 residual5 shifted5 x
+
+-- and at p and T
 unfoldable pub gamma5 : Float → Float → Vapour
-gamma5 p t = vapour_at ideal5 residual5 (λ τ. τ) (point5 p t)
+gamma5 p t = vapour_at5 (point5 p t)
 
 -- 002, Table 4
 unfoldable pub unrooted_of5 : Float → Float → Vapour → Unrooted

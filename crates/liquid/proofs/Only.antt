@@ -1,22 +1,34 @@
 -- No public call of this crate can give a second result: any two results that meet its promise are the same. Assumes nothing.
 use mathlib.Core.Path.{sym, ◌∙◌}
 use Rattle.arith.proofs.Only.{Only}
-use Rattle.liquid.proofs.region1.Region1.point.Kinds as point_1_kinds
-use Rattle.liquid.proofs.region1.Region1.point.Reads as point_1
-use Rattle.liquid.proofs.region1.Region1.gamma.Kinds as gamma_1_kinds
-use Rattle.liquid.proofs.region1.Region1.gamma.Reads as gamma_1
-use Rattle.liquid.proofs.region1.Region1.unrooted_of.Kinds as unrooted_of_1_kinds
-use Rattle.liquid.proofs.region1.Region1.unrooted_of.Reads as unrooted_of_1
-use Rattle.liquid.proofs.region1.Region1.state_of.Kinds as state_of_1_kinds
-use Rattle.liquid.proofs.region1.Region1.state_of.Reads as state_of_1
-use Rattle.liquid.proofs.region1.Region1.state.Kinds as state_1_kinds
-use Rattle.liquid.proofs.region1.Region1.state.Reads as state_1
-use Rattle.liquid.proofs.region1.Region1.response_of.Kinds as response_of_1_kinds
-use Rattle.liquid.proofs.region1.Region1.response_of.Reads as response_of_1
-use Rattle.liquid.proofs.region1.Region1.h.Kinds as h_1_kinds
-use Rattle.liquid.proofs.region1.Region1.h.Reads as h_1
-use Rattle.liquid.proofs.region1.Region1.s.Kinds as s_1_kinds
-use Rattle.liquid.proofs.region1.Region1.s.Reads as s_1
+use Rattle.liquid.proofs.region1.Region1Basic.point.Kinds as point_1_kinds
+use Rattle.liquid.proofs.region1.Region1Basic.point.Reads as point_1
+use Rattle.liquid.proofs.region1.Region1Basic.gamma.Kinds as gamma_1_kinds
+use Rattle.liquid.proofs.region1.Region1Basic.gamma.Reads as gamma_1
+use Rattle.liquid.proofs.region1.Region1Basic.unrooted_of.Kinds as unrooted_of_1_kinds
+use Rattle.liquid.proofs.region1.Region1Basic.unrooted_of.Reads as unrooted_of_1
+use Rattle.liquid.proofs.region1.Region1Basic.state_of.Kinds as state_of_1_kinds
+use Rattle.liquid.proofs.region1.Region1Basic.state_of.Reads as state_of_1
+use Rattle.liquid.proofs.region1.Region1Basic.state.Kinds as state_1_kinds
+use Rattle.liquid.proofs.region1.Region1Basic.state.Reads as state_1
+use Rattle.liquid.proofs.region1.Region1Basic.response_of.Kinds as response_of_1_kinds
+use Rattle.liquid.proofs.region1.Region1Basic.response_of.Reads as response_of_1
+use Rattle.liquid.proofs.region1.Region1Basic.h.Kinds as h_1_kinds
+use Rattle.liquid.proofs.region1.Region1Basic.h.Reads as h_1
+use Rattle.liquid.proofs.region1.Region1Basic.s.Kinds as s_1_kinds
+use Rattle.liquid.proofs.region1.Region1Basic.s.Reads as s_1
+use Rattle.liquid.proofs.region1.Region1Basic.gamma_at.Kinds as gamma_at_1_kinds
+use Rattle.liquid.proofs.region1.Region1Basic.gamma_at.Reads as gamma_at_1
+use Rattle.liquid.proofs.region1.Region1Basic.h_at.Kinds as h_at_1_kinds
+use Rattle.liquid.proofs.region1.Region1Basic.h_at.Reads as h_at_1
+use Rattle.liquid.proofs.region1.Region1Basic.s_at.Kinds as s_at_1_kinds
+use Rattle.liquid.proofs.region1.Region1Basic.s_at.Reads as s_at_1
+use Rattle.liquid.proofs.region1.LiquidGamma.unrooted.Kinds as liquid_unrooted_kinds
+use Rattle.liquid.proofs.region1.LiquidGamma.unrooted.Reads as liquid_unrooted
+use Rattle.liquid.proofs.region1.LiquidGamma.response.Kinds as liquid_response_kinds
+use Rattle.liquid.proofs.region1.LiquidGamma.response.Reads as liquid_response
+use Rattle.liquid.proofs.region1.Region1Basic.unrooted.Kinds as unrooted_1_kinds
+use Rattle.liquid.proofs.region1.Region1Basic.unrooted.Reads as unrooted_1
 
 pub point_1_only : Only 0 point_1_kinds.ps point_1_kinds.r point_1.Post
 point_1_only κs a x y s t p q = p ∙ sym q
@@ -41,3 +53,21 @@ h_1_only κs a x y s t p q = p ∙ sym q
 
 pub s_1_only : Only 0 s_1_kinds.ps s_1_kinds.r s_1.Post
 s_1_only κs a x y s t p q = p ∙ sym q
+
+pub gamma_at_1_only : Only 0 gamma_at_1_kinds.ps gamma_at_1_kinds.r gamma_at_1.Post
+gamma_at_1_only κs a x y s t p q = p ∙ sym q
+
+pub h_at_1_only : Only 0 h_at_1_kinds.ps h_at_1_kinds.r h_at_1.Post
+h_at_1_only κs a x y s t p q = p ∙ sym q
+
+pub s_at_1_only : Only 0 s_at_1_kinds.ps s_at_1_kinds.r s_at_1.Post
+s_at_1_only κs a x y s t p q = p ∙ sym q
+
+pub liquid_unrooted_only : Only 0 liquid_unrooted_kinds.ps liquid_unrooted_kinds.r liquid_unrooted.Post
+liquid_unrooted_only κs a x y s t p q = p ∙ sym q
+
+pub liquid_response_only : Only 0 liquid_response_kinds.ps liquid_response_kinds.r liquid_response.Post
+liquid_response_only κs a x y s t p q = p ∙ sym q
+
+pub unrooted_1_only : Only 0 unrooted_1_kinds.ps unrooted_1_kinds.r unrooted_1.Post
+unrooted_1_only κs a x y s t p q = p ∙ sym q

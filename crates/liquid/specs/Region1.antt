@@ -4,8 +4,6 @@ use Rattle.std.specs.Float.Ieee.{neg}
 use Rattle.arith.specs.F64.{f64, ◌⊖◌, ◌⊗◌, ◌⊘◌}
 use Rattle.arith.specs.Printed.{less, printed}
 use Rattle.terms.specs.Sum.{Term, row, sum_of}
-use Rattle.terms.specs.Six.{six_of}
-use Rattle.terms.specs.declared.Six.{Six}
 use Rattle.arith.specs.Coefficients.{plus, minus}
 use Rattle.properties.specs.Properties.{reduced_by, unrooted_of, rooted_of}
 use Rattle.properties.specs.declared.State.{State}
@@ -54,8 +52,17 @@ table1 =
     ∷ []
 
 -- R = 0.461526 kJ/(kg K), p* = 16.53 MPa, T* = 1386 K
+abbrev pub gas_constant1 : Float
+gas_constant1 = printed false 461526 (less 6)
+
+abbrev pub reducing_pressure1 : Float
+reducing_pressure1 = printed false 1653 (less 2)
+
+abbrev pub reducing_temperature1 : Float
+reducing_temperature1 = f64 1386
+
 unfoldable pub point1 : Float → Float → Point
-point1 p t = reduced_by (printed false 461526 (less 6)) (printed false 1653 (less 2)) (f64 1386) p t
+point1 p t = reduced_by gas_constant1 reducing_pressure1 reducing_temperature1 p t
 
 -- The arguments of Eq. (15), A = 7.1 - π and B = τ - 1.222
 abbrev pub A1 : Point → Float
@@ -68,23 +75,23 @@ B1 x = x.tau ⊖ printed false 1222 (less 3)
 unfoldable pub sum1 : Point → ℕ → ℕ → Float
 sum1 x da db = sum_of table1 da db (A1 x) (B1 x)
 
--- all six of them
-abbrev pub six1 : Point → Six
-six1 x = six_of table1 (A1 x) (B1 x)
+-- Eq. (15) and Table 3 at a point: the inner sign of 7.1 - π negates the finished sum once for each derivative by π, so γππ twice, which leaves it as it is
+abbrev pub liquid_at : Point → Liquid
+liquid_at x = record { g = sum1 x 0 0; gp = neg (sum1 x 1 0); gpp = sum1 x 2 0; gt = sum1 x 0 1; gtt = sum1 x 0 2; gpt = neg (sum1 x 1 1) }
 
--- Eq. (15) and Table 3: the inner sign of 7.1 - π negates the finished sum once for each derivative by π, so γππ twice, which leaves it as it is
+-- and at p and T
 unfoldable pub gamma1 : Float → Float → Liquid
-gamma1 p t =
-    let x = point1 p t in
-    record { g = sum1 x 0 0; gp = neg (sum1 x 1 0); gpp = sum1 x 2 0; gt = sum1 x 0 1; gtt = sum1 x 0 2; gpt = neg (sum1 x 1 1) }
+gamma1 p t = liquid_at (point1 p t)
 
 -- Table 2. w²/RT = γπ² / ((γπ - τ·γπτ)² / (τ²·γττ) - γππ)
-unfoldable pub unrooted_of1 : Float → Float → Liquid → Unrooted
-unrooted_of1 p t γ =
-    let x = point1 p t in
+abbrev pub liquid_unrooted : Point → Liquid → Unrooted
+liquid_unrooted x γ =
     let d = γ.gp ⊖ x.tau ⊗ γ.gpt in
     unrooted_of x γ.g γ.gp γ.gt γ.gtt
     (γ.gp ⊗ γ.gp ⊘ (d ⊗ d ⊘ (x.tau ⊗ x.tau ⊗ γ.gtt) ⊖ γ.gpp))
+
+unfoldable pub unrooted_of1 : Float → Float → Liquid → Unrooted
+unrooted_of1 p t γ = liquid_unrooted (point1 p t) γ
 
 -- with w itself
 unfoldable pub state_of1 : Float → Float → Liquid → State
@@ -95,13 +102,14 @@ unfoldable pub state1 : Float → Float → State
 state1 p t = state_of1 p t (gamma1 p t)
 
 -- 001: α = (1/T)·(1 - τ·γπτ/γπ) and κ = (1/P)·(-(π·γππ/γπ)), with P = 1000·p in kPa
+abbrev pub liquid_response : Point → Liquid → Response
+liquid_response x γ = record {
+  alpha = f64 1 ⊘ x.t ⊗ (f64 1 ⊖ x.tau ⊗ γ.gpt ⊘ γ.gp);
+  kappa = f64 1 ⊘ (f64 1000 ⊗ x.p) ⊗ neg (x.pi ⊗ γ.gpp ⊘ γ.gp);
+}
+
 unfoldable pub response_of1 : Float → Float → Liquid → Response
-response_of1 p t γ =
-    let x = point1 p t in
-    record {
-      alpha = f64 1 ⊘ t ⊗ (f64 1 ⊖ x.tau ⊗ γ.gpt ⊘ γ.gp);
-      kappa = f64 1 ⊘ (f64 1000 ⊗ p) ⊗ neg (x.pi ⊗ γ.gpp ⊘ γ.gp);
-    }
+response_of1 p t γ = liquid_response (point1 p t) γ
 
 -- h and s alone
 abbrev pub h1 : Float → Float → Float

@@ -7,7 +7,7 @@ use dense::Region3;
 use desk::{Answer as Answered, Desk, Outcome};
 use hot::Region5;
 use liquid::Region1;
-use properties::State;
+use properties::{Basic, State};
 use reply::Answer;
 use saturation_line::{SaturationPressure, ps};
 use slopes::Derivative;

@@ -3,8 +3,10 @@
 // Units: p in MPa, T in K, v in m³/kg, u and h in kJ/kg, s and cp in kJ/(kg K), w in m/s.
 #![tactic(auto)]
 
+mod basic;
 mod gibbs;
 
+pub use basic::{Basic, Gamma};
 pub use gibbs::{enthalpy, entropy, from_gamma, reduced, rooted};
 
 // A pressure and a temperature as a region reads them: with its gas constant R and the reduced

@@ -1,5 +1,5 @@
 // Single-phase states with their marks (specs/Marks.antt).
-ghost use Rattle.std.specs.Prelude.{◌≡◌};
+ghost use Rattle.std.specs.Prelude.{◌≡◌, true};
 ghost use Rattle.properties.specs.Properties.{rooted_of};
 ghost use Rattle.equations.specs.Equations.{equation_of};
 ghost use Rattle.equations.specs.declared.Equation.TheVariants as equation;
@@ -10,7 +10,7 @@ use dense::{Region3, density};
 use equations::{Equation, Phase, equation_of};
 use hot::Region5;
 use liquid::Region1;
-use properties::{Unrooted, rooted};
+use properties::{Basic, Unrooted, rooted};
 use steam::Region2;
 use workings::{Given, given_of, worked_at};
 
@@ -51,6 +51,7 @@ pub(crate) fn verified(given: Given, h: f64, s: f64, y: f64) -> bool
 }
 
 // Whether both h and s of a state are within the margins dh and ds.
+#[tactic(auto, unfolding(properties::specs::Properties::rooted_of))]
 pub fn both_near(dh: f64, ds: f64, a: Unrooted, h: f64, s: f64) -> bool
     ensures { result ≡ both_near dh ds (rooted_of a) h s }
 {
@@ -70,28 +71,31 @@ fn met_3(p: f64, t: f64) -> Met
     }
 }
 
-// By an equation at p and T. Regions 1, 2 and 5 are worked at the p and T asked, so they come back to them.
+// Regions 1, 2 and 5 are worked at the p and T asked, so they come back to them.
+fn exact(unrooted: Unrooted) -> Met
+    ensures { result ≡ record { unrooted = unrooted; met = true } }
+{
+    Met {
+        unrooted,
+        met: true,
+    }
+}
+
+// By an equation at p and T.
+#[tactic(auto, unfolding(workings::specs::Workings::unrooted_at))]
 fn met_at(equation: Equation, p: f64, t: f64) -> Met
     ensures { result ≡ met_of equation p t }
 {
     match equation {
-        Equation::Region1 => Met {
-            unrooted: Region1::unrooted_of(p, t, Region1::gamma(p, t)),
-            met: true,
-        },
-        Equation::Region2 => Met {
-            unrooted: Region2::unrooted_of(p, t, Region2::gamma(p, t)),
-            met: true,
-        },
+        Equation::Region1 => exact(Region1::unrooted(p, t)),
+        Equation::Region2 => exact(Region2::unrooted(p, t)),
         Equation::Region3 => met_3(p, t),
-        Equation::Region5 => Met {
-            unrooted: Region5::unrooted_of(p, t, Region5::gamma(p, t)),
-            met: true,
-        },
+        Equation::Region5 => exact(Region5::unrooted(p, t)),
     }
 }
 
 // The state of an equation at p and T, marked by whether it comes back to them.
+#[tactic(auto, unfolding(workings::specs::Workings::state_at))]
 pub fn state_at(equation: Equation, p: f64, t: f64) -> Single
     ensures { result ≡ single_of equation p t (met_at equation p t) }
 {
@@ -107,6 +111,7 @@ pub fn state_at(equation: Equation, p: f64, t: f64) -> Single
 }
 
 // The state of an equation at p and T, marked by the h or s that was asked.
+#[tactic(auto, unfolding(crate::specs::Marks::marked_of, workings::specs::Workings::state_at, properties::specs::Properties::rooted_of))]
 pub fn marked(given: Given, equation: Equation, p: f64, y: f64, t: f64) -> Single
     ensures { result ≡ marked_of given equation p y t }
 {

@@ -6,7 +6,7 @@ ghost use Rattle.states.specs.Mixing.{quality, mixed, mixture_of, wet_of};
 use crate::Wet;
 use crate::marks::verified;
 use liquid::Region1;
-use properties::Unrooted;
+use properties::{Basic, Unrooted};
 use steam::Region2;
 use workings::{Given, given_of};
 
@@ -25,6 +25,7 @@ fn quality(y: f64, least: f64, most: f64) -> f64
 }
 
 // The wet state at p and t that has the h or s asked.
+#[tactic(auto, unfolding(crate::specs::Mixing::mixture_of, properties::specs::Properties::rooted_of))]
 fn mixture(given: Given, p: f64, y: f64, t: f64, liquid: Unrooted, vapour: Unrooted) -> Wet
     ensures { result ≡ mixture_of given p y t (rooted_of liquid) (rooted_of vapour) }
 {
@@ -47,10 +48,11 @@ fn mixture(given: Given, p: f64, y: f64, t: f64, liquid: Unrooted, vapour: Unroo
 
 // The wet state at p in MPa and t in K, the Ts(p) of its caller, that has the h in kJ/kg or s in
 // kJ/(kg K) asked.
+#[tactic(auto, unfolding(crate::specs::Mixing::wet_of, liquid::specs::Region1::state1, liquid::specs::Region1::state_of1, steam::specs::Region2::state2, steam::specs::Region2::state_of2))]
 pub fn wet_at(given: Given, p: f64, y: f64, t: f64) -> Wet
     ensures { result ≡ wet_of given p y t }
 {
-    let liquid = Region1::unrooted_of(p, t, Region1::gamma(p, t));
-    let vapour = Region2::unrooted_of(p, t, Region2::gamma(p, t));
+    let liquid = Region1::unrooted(p, t);
+    let vapour = Region2::unrooted(p, t);
     mixture(given, p, y, t, liquid, vapour)
 }

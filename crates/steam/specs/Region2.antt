@@ -75,16 +75,29 @@ residual2 =
     ∷ []
 
 -- R = 0.461526 kJ/(kg K), p* = 1 MPa, T* = 540 K
+abbrev pub gas_constant2 : Float
+gas_constant2 = printed false 461526 (less 6)
+
+abbrev pub reducing_pressure2 : Float
+reducing_pressure2 = f64 1
+
+abbrev pub reducing_temperature2 : Float
+reducing_temperature2 = f64 540
+
 unfoldable pub point2 : Float → Float → Point
-point2 p t = reduced_by (printed false 461526 (less 6)) (f64 1) (f64 540) p t
+point2 p t = reduced_by gas_constant2 reducing_pressure2 reducing_temperature2 p t
 
 -- The residual part is summed at π and τ - 0.5.
 abbrev pub shifted2 : Float → Float
 shifted2 τ = τ ⊖ printed false 5 (less 1)
 
--- Eqs. (19) to (21)
+-- Eqs. (19) to (21), at a point
+abbrev pub vapour_at2 : Point → Vapour
+vapour_at2 x = vapour_at ideal2 residual2 shifted2 x
+
+-- and at p and T
 unfoldable pub gamma2 : Float → Float → Vapour
-gamma2 p t = vapour_at ideal2 residual2 shifted2 (point2 p t)
+gamma2 p t = vapour_at2 (point2 p t)
 
 -- Table 4
 unfoldable pub unrooted_of2 : Float → Float → Vapour → Unrooted

@@ -1,2 +1,2 @@
 pub mod Only
-pub mod Parts
+pub mod Summed

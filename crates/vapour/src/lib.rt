@@ -3,9 +3,11 @@
 // answers is said in specs/.
 #![tactic(auto)]
 
+mod parts;
 mod vapours;
 
-pub use vapours::{added, gibbs, response_at, unrooted_at};
+pub use parts::{Parts, gamma_at, h_at, s_at};
+pub use vapours::{added, gibbs};
 
 // γ = γ° + γʳ with its derivatives γπ, γτ and γττ, and the residual part's γʳπ, γʳππ and γʳπτ.
 #[derive(Clone, Copy)]

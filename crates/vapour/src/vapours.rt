@@ -3,7 +3,7 @@ ghost use Rattle.std.specs.Prelude.{◌≡◌};
 ghost use Rattle.vapour.specs.Vapour.{gibbs_of, vapour_of, vapour_unrooted, vapour_response};
 
 use crate::Vapour;
-use properties::{Point, Response, Unrooted, from_gamma};
+use properties::{Gamma, Point, Response, Unrooted, from_gamma};
 use terms::Six;
 
 // γ = γ° + γʳ, from the sum of each part.
@@ -28,23 +28,23 @@ pub fn added(pi: f64, ideal: Six, residual: Six) -> Vapour
     }
 }
 
-// The six properties with w squared.
-pub fn unrooted_at(x: Point, g: Vapour) -> Unrooted
-    ensures { result ≡ vapour_unrooted x g }
-{
-    let d = 1.0 + x.pi * g.rp - x.tau * x.pi * g.rpt;
-    let above = 1.0 + 2.0 * x.pi * g.rp + x.pi * x.pi * (g.rp * g.rp);
-    let below = 1.0 - x.pi * x.pi * g.rpp + d * d / (x.tau * x.tau * g.gtt);
-    from_gamma(x, g.g, g.gp, g.gt, g.gtt, above / below)
-}
+impl Gamma for Vapour {
+    ghost unrooted_at = { vapour_unrooted };
 
-// α and κ.
-pub fn response_at(x: Point, g: Vapour) -> Response
-    ensures { result ≡ vapour_response x g }
-{
-    let e = 1.0 + x.pi * g.rp;
-    Response {
-        alpha: 1.0 / x.t * ((e - x.tau * x.pi * g.rpt) / e),
-        kappa: 1.0 / (1000.0 * x.p) * ((1.0 - x.pi * x.pi * g.rpp) / e),
+    ghost response_at = { vapour_response };
+
+    fn unrooted(self, x: Point) -> Unrooted {
+        let d = 1.0 + x.pi * self.rp - x.tau * x.pi * self.rpt;
+        let above = 1.0 + 2.0 * x.pi * self.rp + x.pi * x.pi * (self.rp * self.rp);
+        let below = 1.0 - x.pi * x.pi * self.rpp + d * d / (x.tau * x.tau * self.gtt);
+        from_gamma(x, self.g, self.gp, self.gt, self.gtt, above / below)
+    }
+
+    fn response(self, x: Point) -> Response {
+        let e = 1.0 + x.pi * self.rp;
+        Response {
+            alpha: 1.0 / x.t * ((e - x.tau * x.pi * self.rpt) / e),
+            kappa: 1.0 / (1000.0 * x.p) * ((1.0 - x.pi * x.pi * self.rpp) / e),
+        }
     }
 }

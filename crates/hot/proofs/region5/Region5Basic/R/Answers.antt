@@ -1,0 +1,9 @@
+-- The gas constant of region 5 in code is the definition's number, which computing shows. Assumes nothing.
+use mathlib.Core.Path.{refl}
+use lib.Ieee.{round, of_bits}
+use Rattle.arith.specs.Printed.{printed}
+use Rattle.hot.proofs.region5.Region5Basic.R.Goals as goal
+
+pub returns : goal.returns
+unfolding printed round of_bits
+returns c = refl
