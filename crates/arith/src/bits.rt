@@ -7,7 +7,7 @@ pub fn float_of(bits: u64) -> f64
     ensures { result ≡ float_of bits }
 {
     if bits % 0x8000_0000_0000_0000 > 0x7ff0_0000_0000_0000 {
-        0.0 / 0.0
+        f64::NAN
     } else {
         f64::from_bits(bits)
     }
@@ -17,6 +17,5 @@ pub fn float_of(bits: u64) -> f64
 pub fn is_finite(x: f64) -> bool
     ensures { result ≡ finite x }
 {
-    let infinity = 1.0 / 0.0;
-    -infinity < x && x < infinity
+    x.is_finite()
 }

@@ -3,14 +3,12 @@ ghost use Rattle.std.specs.Prelude.{◌≡◌};
 ghost use Rattle.arith.specs.Power.{raised, power_of};
 
 // x^k, formed from x^0 = 1 by k multiplications.
-fn raised(x: f64, k: u32) -> f64
+fn raised(x: f64, k: u16) -> f64
     ensures { result ≡ raised x k }
 {
     let mut r = 1.0;
-    let mut i = 0u32;
-    while i < k {
+    for _ in 0..k {
         r = r * x;
-        i += 1;
     }
     r
 }
@@ -19,9 +17,6 @@ fn raised(x: f64, k: u32) -> f64
 pub fn power(x: f64, k: i16) -> f64
     ensures { result ≡ power_of x k }
 {
-    if k < 0 {
-        1.0 / raised(x, (0 - (k as i32)) as u32)
-    } else {
-        raised(x, k as u32)
-    }
+    let y = raised(x, k.unsigned_abs());
+    if k < 0 { 1.0 / y } else { y }
 }

@@ -1,29 +1,15 @@
--- `arith::bits::is_finite` meets its contract: the two comparisons tell the infinities and NaN apart from every other number. Assumes nothing.
-use mathlib.Core.Path.{◌≡◌, refl}
-use mathlib.Core.Bool.{true, false}
-use lib.Ieee.{Float, nan, inf, fin, lt, neg, div, of_bits}
+-- `arith::bits::is_finite` meets its contract: std's word and the definition name the same numbers. Assumes nothing.
+use mathlib.Core.Path.{◌≡◌, refl, ◌∙◌}
+use lib.Ieee.{Float, nan, inf, fin}
+use Rattle.std.specs.Float.{float_is_finite}
 use Rattle.arith.specs.Bits.{finite}
-use Rattle.arith.proofs.Signs.{never}
 use Rattle.arith.proofs.bits.is_finite.Goals as goal
 
-not_below : (x : Float) → lt (inf true) x ≡ true → lt x (inf false) ≡ finite x
-unfolding lt finite
-not_below nan h = refl
-not_below (inf true) h = never h refl
-not_below (inf false) h = refl
-not_below (fin s m e) h = refl
+same : (x : Float) → float_is_finite x ≡ finite x
+unfolding float_is_finite finite
+same nan = refl
+same (inf s) = refl
+same (fin s m e) = refl
 
-at-bottom : (x : Float) → lt (inf true) x ≡ false → lt (inf true) x ≡ finite x
-unfolding lt finite
-at-bottom nan h = refl
-at-bottom (inf true) h = refl
-at-bottom (inf false) h = never refl h
-at-bottom (fin s m e) h = never refl h
-
-pub returns-then-infinity-x : goal.returns-then-infinity-x
-unfolding div of_bits neg
-returns-then-infinity-x c = not_below c.args.x c.if-infinity-x.true
-
-pub returns-else-infinity-x : goal.returns-else-infinity-x
-unfolding div of_bits neg
-returns-else-infinity-x c = at-bottom c.args.x c.if-infinity-x.false
+pub returns : goal.returns
+returns c = c.is_finite.ensures.value ∙ same c.args.x

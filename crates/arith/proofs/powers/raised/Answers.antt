@@ -1,17 +1,12 @@
--- `arith::powers::raised` meets its contract: after i turns r is x^i. Assumes nothing.
-use mathlib.Core.Path.{ap, ◌∙◌}
-use native.Mathlib.Omega.{arith}
+-- `arith::powers::raised` meets its contract: after so many turns r is x to that power. Assumes nothing.
 use Rattle.arith.specs.Power.{raised}
 use Rattle.arith.proofs.Literals.{one_is}
 use Rattle.arith.proofs.Exponents.{raised_step}
 use Rattle.arith.proofs.powers.raised.Goals as goal
 
-pub loop-i-init : goal.loop-i-init
+pub loop-init : goal.loop-init
 unfolding raised
-loop-i-init c = (one_is, omega arith)
+loop-init c = one_is
 
-pub loop-i-preserved : goal.loop-i-preserved
-loop-i-preserved c = (raised_step _ _ c.loop-i.invariant.0, omega arith)
-
-pub returns : goal.returns
-returns c = c.loop-i.invariant.0 ∙ ap (raised _) (omega arith)
+pub loop-preserved : goal.loop-preserved
+loop-preserved c = raised_step _ _ c.loop.invariant
