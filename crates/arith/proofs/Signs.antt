@@ -1,4 +1,4 @@
--- An f64 by the tests `0.0 < x` and `x == 0.0`, and a pattern by its fields: what the proofs of `root` and `log` cite of their branches. Assumes nothing.
+-- An f64 by the test `0.0 < x`, and a pattern by its fields: what the proofs of `log` cite of its branches. Assumes nothing.
 use mathlib.Core.Path.{◌≡◌, refl, sym, ◌∙◌, subst}
 use mathlib.Core.Bool.{Bool, true, false, not, cond, true≢false, false≢true}
 use Prim.Native.Nat.{ℕ, zero, suc, ◌+◌, ◌*◌, ◌/◌, ◌%◌, ◌^◌, ◌≤◌, ◌<◌}
@@ -6,10 +6,10 @@ use native.Mathlib.Nat.{mul-pos, zero-lt-suc}
 use native.Mathlib.Omega.{arith}
 use lib.Dec.{T, leb, eqb, nleb→lt}
 use lib.IntN.{ℤ, pos}
-use lib.Ieee.{Float, nan, inf, fin, binary64, up, down, odd, lt, eq, is_nan, of_fields, of_bits, to_bits, nan_bits, fits}
+use lib.Ieee.{Float, nan, inf, fin, binary64, up, down, odd, lt, is_nan, of_fields, of_bits, to_bits, nan_bits, fits}
 use lib.Ieee.Bits.{of_bits-to_bits, nan_bits_above}
 use lib.Ieee.Fits.{up_pos}
-use borrow.Author.Tests.{lt-ltb, le-ltb, eq-eqb, ne_eqb}
+use borrow.Author.Tests.{lt-ltb, le-ltb}
 
 pub never : {b : Bool} {X : Type 0} → b ≡ true → b ≡ false → X
 never p q = absurd (true≢false (sym p ∙ q))
@@ -29,34 +29,20 @@ plus_zero = refl
 pub above : (x : Float) → fits binary64 x ≡ true → lt (of_bits binary64 0) x ≡ true → lt zero64 (of_bits binary64 (to_bits binary64 x)) ≡ true
 above x h t = rw (own x h, ← plus_zero) t
 
--- ---- what is above 0 is no NaN and has some bits
+-- ---- what is above 0 is no NaN
 pub no_nan : (x : Float) → lt zero64 x ≡ true → T (not (is_nan x))
 unfolding lt is_nan
 no_nan nan h = absurd (false≢true h)
 no_nan (inf s) h = tt
 no_nan (fin s m e) h = tt
 
-pub some : (b : ℕ) → lt zero64 (of_bits binary64 b) ≡ true → 0 < b
-unfolding lt of_bits
-some zero h = absurd (false≢true h)
-some (suc b) h = zero-lt-suc b
-
 pub no_nan_bits : (n : ℕ) → n ≤ 0x7ff0_0000_0000_0000 → T (not (nan_bits binary64 n))
 no_nan_bits n h = rw (nan_bits_above binary64 n, le-ltb 0x7ff0_0000_0000_0000 (n % 2 ^ 63) (omega arith)) tt
 
--- ---- the two tests at a number
+-- ---- the test at a number
 pub plus : (m : ℕ) (e : ℤ) → lt zero64 (fin false (suc m) e) ≡ true
 unfolding lt
 plus m e = lt-ltb (0 * 1 * down e) (suc m * up e * 1) (omega (arith, mul-pos (zero-lt-suc m) (up_pos e)))
-
-pub flat : (s : Bool) (e : ℤ) → eq (fin s 0 e) zero64 ≡ true
-unfolding eq
-flat true e = rw (eq-eqb (0 * up e * 1) (0 * 1 * down e) (omega arith), eq-eqb (0 * up e * 1) 0 (omega arith))
-flat false e = rw (eq-eqb (0 * up e * 1) (0 * 1 * down e) (omega arith))
-
-pub not_flat : (s : Bool) (m : ℕ) (e : ℤ) → eq (fin s (suc m) e) zero64 ≡ false
-unfolding eq
-not_flat s m e = rw (ne_eqb (suc m * up e * 1) (0 * 1 * down e) (λ z. omega (arith, mul-pos (zero-lt-suc m) (up_pos e))))
 
 -- ---- a pattern with the sign set stands for nothing above 0
 minus_odd : (w q k l : ℕ) → lt zero64 (odd w true q k l) ≡ false

@@ -1,5 +1,5 @@
-// The arithmetic that f64 lacks: whole powers, the f64 of any 64 bits, finiteness. Every call takes every
-// number and ends; what it answers is said in specs/.
+// Arithmetic on f64: whole powers, the f64 of any 64 bits, finiteness. Every call takes every number and
+// ends; what it answers is said in specs/.
 #![tactic(auto)]
 
 mod bits;

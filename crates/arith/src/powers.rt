@@ -1,4 +1,5 @@
-// Whole powers by multiplying, in the one order that gives their bits (specs/Power.antt).
+// Whole powers by multiplying, in the one order that gives their bits (specs/Power.antt): the library's
+// powi squares, which gives others.
 ghost use Rattle.std.specs.Prelude.{◌≡◌};
 ghost use Rattle.arith.specs.Power.{raised, power_of};
 

@@ -1,35 +1,11 @@
 -- The digits of a root: `root_of` by the number of smallest ones, scaled to a whole number whose root has 53 binary digits. Assumes nothing.
-use Rattle.std.proofs.Common.{◌≡◌, ℕ, zero, suc, ◌+◌, ◌-◌, ◌*◌, ◌/◌, ◌^◌, ◌<◌, ◌≤◌, true, false, sym, refl, ap, ◌∙◌, true≢false, le_trans, mul-le-mul_right, mul-lt-mul_of_pos_right, mul-pos, pow-suc, lt_of_not-le, zero-mul, mul_right_comm, not-le_of_lt, mul-div_cancel, arith, pow_mono, pow-add, ne_eqb}
+use Rattle.std.proofs.Common.{◌≡◌, ℕ, zero, suc, ◌+◌, ◌-◌, ◌*◌, ◌/◌, ◌^◌, ◌<◌, ◌≤◌, true, false, sym, refl, ap, ◌∙◌, true≢false, le_trans, mul-le-mul_right, mul-lt-mul_of_pos_right, mul-pos, pow-suc, lt_of_not-le, zero-mul, not-le_of_lt, mul-div_cancel, arith, pow_mono, pow-add, ne_eqb}
 use native.Mathlib.Nat.{one-le-pow}
-use lib.Ieee.{Float, nan, inf, fin, up, down, size, odd, lt, eq}
+use lib.Ieee.{Float, nan, inf, fin, up, down, size, odd}
 use lib.Ieee.Digits.{size-lt, size-le}
 use lib.Ieee.Fits.{down_pos}
 use lib.Ieee.Exact.{HasValue}
-use mathlib.Core.Bool.{false≢true}
 use Rattle.elementary.specs.Root.{near_root, root_units, root_of}
-use Rattle.arith.proofs.Signs.{zero64, never, plus, flat, not_flat}
-use Rattle.elementary.proofs.Units.{odd_shift}
-
--- ---- by the tests of the code
-pub root_zero : (x : Float) → eq x zero64 ≡ true → root_of x ≡ x
-unfolding eq root_of
-root_zero nan h = absurd (false≢true h)
-root_zero (inf s) h = absurd (false≢true h)
-root_zero (fin s zero e) h = refl
-root_zero (fin s (suc m) e) h = never h (not_flat s m e)
-
-pub no_root : (x : Float) → lt zero64 x ≡ false → eq x zero64 ≡ false → root_of x ≡ nan
-unfolding lt root_of
-no_root nan h k = refl
-no_root (inf true) h k = refl
-no_root (inf false) h k = absurd (true≢false h)
-no_root (fin s zero e) h k = never (flat s e) k
-no_root (fin true (suc m) e) h k = rw (ne_eqb (suc m) 0 (λ z. omega arith))
-no_root (fin false (suc m) e) h k = never (plus m e) h
-
-pub root_infinity : root_of (inf false) ≡ inf false
-unfolding root_of
-root_infinity = refl
 
 -- ---- by the number of smallest ones
 pub by_units : (x : Float) (a : ℕ) → HasValue x false a (2 ^ 1074) → 0 < a → root_of x ≡ root_units a
@@ -62,7 +38,3 @@ units_by n s d e lo hi =
     let p : 0 < 4 ^ d = one-le-pow d 4 (omega arith) in
     let h : (size n - 1) / 2 ≡ d = half_size n d (omega (arith, mul-le-mul_right (4 ^ d) lo)) (omega (arith, mul-lt-mul_of_pos_right hi p)) in
     ap (λ z. odd 53 false (near_root (n * 4 ^ 52 / 4 ^ z)) z 589) h ∙ ap (λ z. odd 53 false (near_root z) d 589) (ap (λ z. z / 4 ^ d) e ∙ mul-div_cancel s p)
-
--- the same as the code has it, with m · 4^26 for s
-pub units_are : (n m d : ℕ) → n * 4 ^ 26 ≡ m * 4 ^ d → 2 ^ 52 ≤ m → m < 2 ^ 54 → root_units n ≡ odd 53 false (near_root (m * 4 ^ 26)) (485 + d) 1074
-units_are n m d e lo hi = units_by n (m * 4 ^ 26) d (omega (arith, mul_right_comm m (4 ^ 26) (4 ^ d))) (omega arith) (omega arith) ∙ odd_shift 485 53 (near_root (m * 4 ^ 26)) d 589

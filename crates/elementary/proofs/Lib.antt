@@ -4,3 +4,4 @@ pub mod Whole
 pub mod Digits
 pub mod Nearest
 pub mod Logarithm
+pub mod Sqrt

@@ -1,9 +1,8 @@
 -- The logarithm: the m and e that are taken satisfy x = m · 2^e and 0.75 ≤ m < 1.5 (`parts_right`), and what the proofs of its functions cite. Assumes nothing.
-use Rattle.std.proofs.Common.{◌≡◌, ℕ, zero, suc, ◌+◌, ◌-◌, ◌*◌, ◌/◌, ◌^◌, ◌<◌, ◌≤◌, Bool, true, false, cond, not, T, ltb, leb, pos, sym, refl, ap, ◌∙◌, subst, true≢false, le_trans, lt_of_lt_of_le, add-zero, le_of_lt, mul-le-mul_right, mul_assoc, lt_of_mul-lt-mul_right, mul-le-mul_left, lt_of_not-le, zero-mul, mul_right_comm, not-le_of_lt, le_of_mul-le-mul_right, mul-div_cancel, add-one, arith, leb→le, pow_pos, pow_mono, pow-add, shl_lt, le-ltb, lt-ltb}
+use Rattle.std.proofs.Common.{◌≡◌, ℕ, zero, suc, ◌+◌, ◌-◌, ◌*◌, ◌/◌, ◌^◌, ◌<◌, ◌≤◌, Bool, true, false, not, T, leb, sym, refl, ap, ◌∙◌, subst, true≢false, le_trans, lt_of_lt_of_le, add-zero, le_of_lt, mul-le-mul_right, mul_assoc, lt_of_mul-lt-mul_right, mul-le-mul_left, lt_of_not-le, zero-mul, mul_right_comm, not-le_of_lt, le_of_mul-le-mul_right, mul-div_cancel, add-one, arith, leb→le, pow_pos, pow_mono, pow-add, shl_lt, le-ltb, lt-ltb}
 use native.Mathlib.Nat.{zero-div}
 use lib.Dec.{nleb→lt}
-use borrow.Author.Tests.{lt-leb}
-use lib.Ieee.{Float, nan, inf, fin, Format, binary64, prec, emax, low, odd, units, round, of_int, of_bits, neg, minus, size, up, down, fits, lt}
+use lib.Ieee.{Float, nan, inf, fin, binary64, odd, round, of_int, of_bits, minus, size, up, down, fits, lt}
 use lib.Ieee.Digits.{back, minus_val, size-lt, size-le, size_reaches}
 use lib.Ieee.Fits.{down_pos, odd-fits}
 use lib.Ieee.Exact.{HasValue, odd_sign}
@@ -24,28 +23,6 @@ unfolding of_bits ln2 printed round
 ln2_is = refl
 
 -- ---- a negated float is that of the other sign
-neg_odd : (d q k l : ℕ) → neg (odd d false q k l) ≡ odd d true q k l
-unfolding neg odd
-neg_odd d zero k l = refl
-neg_odd d (suc q) k l = refl
-
-neg_units : (f : Format) (q k : ℕ) → neg (units f false q k) ≡ units f true q k
-unfolding neg units
-neg_units f q k = go (ltb (q * 2 ^ k) (2 ^ (low f + suc (emax f))))
-  where
-    go : (b : Bool) → neg (cond b (odd (suc (prec f)) false q k (low f)) (inf false)) ≡ cond b (odd (suc (prec f)) true q k (low f)) (inf true)
-    go true = neg_odd (suc (prec f)) q k (low f)
-    go false = refl
-
-neg_round : (f : Format) (a c : ℕ) → neg (round f false a c) ≡ round f true a c
-unfolding round
-neg_round f a c = neg_units f _ _
-
-pub minus_is : (k c : ℕ) → k < c → neg (of_int binary64 (pos (c - k))) ≡ of_int binary64 (minus k c)
-unfolding of_int
-minus_is k c h =
-    let e : c - k ≡ suc (c - suc k) = omega arith in
-    rw (lt-leb c k h) (neg_round binary64 (c - k) 1 ∙ ap (λ n. round binary64 true n 1) e)
 
 -- ---- the series and the sum
 pub series_step : {t : Float} (q : Float) (j : ℕ) → t ≡ series q j → t ⊗ q ⊕ of_bits binary64 0x3ff0_0000_0000_0000 ⊘ f64 (21 - 2 * j) ≡ series q (j + 1)

@@ -15,7 +15,7 @@ use Rattle.elementary.proofs.Digits.{four, by_units, units_by}
 -- ---- whole numbers
 
 -- r is the whole number nearest the root of n: the root is above r - 1/2 and below r + 1/2
-abbrev Near : ℕ → ℕ → Type 0
+abbrev pub Near : ℕ → ℕ → Type 0
 Near n r = ((2 * r - 1) * (2 * r - 1) < 4 * n) × (4 * n < (2 * r + 1) * (2 * r + 1))
 
 near_law : (n : ℕ) → 0 < n → n < 4 ^ 53 → Near n (near_root n)
@@ -34,7 +34,7 @@ near_law n some h = go (floor_root 53 n) (floor_law 53 n h) (leb ((2 * floor_roo
 -- ---- scaled
 
 -- y is r · 2^d / 2^(52 + 537), r the whole number nearest the root of s, and x = n / 2^1074 with n · 4^52 = s · 4^d
-record Scaled (n : ℕ) (y : Float) : Type 0 where
+pub record Scaled (n : ℕ) (y : Float) : Type 0 where
   pub d : ℕ
   pub s : ℕ
   pub r : ℕ
@@ -125,10 +125,10 @@ module _ (w s r p : ℕ) (total : w ≡ 4 * s * (p * p)) (least : 4 ^ 52 ≤ s) 
 
 -- the count of y, and that of any f64 against it
 module _ (n : ℕ) (y : Float) (k : Scaled n y) where
-  abbrev last : ℕ
+  abbrev pub last : ℕ
   last = 2 ^ (485 + k.d)
 
-  abbrev count : ℕ
+  abbrev pub count : ℕ
   count = k.r * last
 
   total : 4 * (n * 2 ^ 1074) ≡ 4 * k.s * (last * last)
@@ -140,10 +140,10 @@ module _ (n : ℕ) (y : Float) (k : Scaled n y) where
   shifted : y ≡ odd 53 false k.r (485 + k.d) 1074
   shifted = k.is ∙ odd_shift 485 53 k.r k.d 589
 
-  value : HasValue y false count (2 ^ 1074)
+  pub value : HasValue y false count (2 ^ 1074)
   value = subst (λ z. HasValue z false count (2 ^ 1074)) (sym shifted) (odd_sign 53 false k.r (485 + k.d) 1074)
 
-  held : T (fits binary64 y)
+  pub held : T (fits binary64 y)
   held =
       subst (λ z. T (fits binary64 z)) (sym shifted)
       (odd-fits binary64 53 false k.r (485 + k.d) k.short (le_of_lt k.short) (lt_of_lt_of_le (shl_lt 53 (485 + k.d) k.short) (pow_mono {i = 53 + (485 + k.d)} {j = 2098} (omega (arith, k.bounded)))))
@@ -176,7 +176,7 @@ module _ (n : ℕ) (y : Float) (k : Scaled n y) where
       go false a b = absurd (not-le_of_lt (larger z p.units t p.value (b tt)) (subst (λ u. u ≤ 4 * (n * 2 ^ 1074)) swap (p.below y count held value (b tt))))
 
 -- ---- the root of a positive finite f64 x = n / 2^1074
-of_root : (x : Float) (n : ℕ) → T (fits binary64 x) → HasValue x false n (2 ^ 1074) → 0 < n → Scaled n (root_of x)
+pub of_root : (x : Float) (n : ℕ) → T (fits binary64 x) → HasValue x false n (2 ^ 1074) → 0 < n → Scaled n (root_of x)
 of_root x n t v h = subst (λ y. Scaled n y) (sym (by_units x n v h)) (scaled n (counted x n t v) h)
 
 pub root_nearest : (x : Float) (n : ℕ) → T (fits binary64 x) → HasValue x false n (2 ^ 1074) → 0 < n → Nearest n (root_of x)

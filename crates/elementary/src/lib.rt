@@ -1,5 +1,5 @@
-// The elementary functions that the formulation needs and f64 lacks: square root, fourth root and natural
-// logarithm. Every call takes every number and ends; what it answers is said in specs/.
+// The elementary functions that the formulation needs: the square root, the fourth root, and the natural
+// logarithm, which f64 lacks. Every call takes every number and ends; what it answers is said in specs/.
 #![tactic(auto)]
 
 mod logs;

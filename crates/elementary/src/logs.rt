@@ -9,11 +9,7 @@ fn difference(k: u64, c: u64) -> f64
     requires { (k < 4096) × (c < 4096) }
     ensures { result ≡ of_int binary64 (minus k c) }
 {
-    if c <= k {
-        (k - c) as f64
-    } else {
-        -((c - k) as f64)
-    }
+    (k as i64 - c as i64) as f64
 }
 
 // The logarithm of m · 2^e, by the series in z = (m - 1) / (m + 1).
@@ -23,10 +19,8 @@ fn log_sum(m: f64, e: f64) -> f64
     let z = (m - 1.0) / (m + 1.0);
     let q = z * z;
     let mut t = 1.0 / 23.0;
-    let mut j = 0u32;
-    while j < 11 {
-        t = t * q + 1.0 / ((21 - 2 * j) as f64);
-        j += 1;
+    for j in 0u32..11 {
+        t = t * q + 1.0 / f64::from(21 - 2 * j);
     }
     e * 0.693147180559945309417 + (2.0 * z) * t
 }
@@ -36,10 +30,10 @@ pub fn log(x: f64) -> f64
     ensures { result ≡ log_of x }
 {
     if 0.0 < x {
-        let b = f64::to_bits(x);
+        let b = x.to_bits();
         if b < 0x7ff0_0000_0000_0000 {
             if b < 0x10_0000_0000_0000 {
-                return 0.0 / 0.0;
+                return f64::NAN;
             }
             let k = b / 0x10_0000_0000_0000 - 1;
             let t = b % 0x10_0000_0000_0000;
@@ -55,5 +49,5 @@ pub fn log(x: f64) -> f64
             );
         }
     }
-    0.0 / 0.0
+    f64::NAN
 }

@@ -6,7 +6,6 @@ use Rattle.arith.proofs.Literals.{nan_is}
 use Rattle.arith.proofs.Signs.{own, no_nan, no_nan_bits, plus_infinity}
 use Rattle.elementary.proofs.Logarithm.{log_small, log_parts, parts_under, parts_over, made, no_log, log_infinity}
 use Rattle.elementary.proofs.logs.log.Goals as goal
-use Rattle.elementary.proofs.logs.log.Goals.{then-x+else-b-lt9218868437227405312, else-x}
 
 -- a sum that was made of the parts of x
 summed : (p : Parts) (m e : Float) → m ≡ p.m → e ≡ of_int binary64 p.e → log_sum m e ≡ log_sum p.m (of_int binary64 p.e)
@@ -48,12 +47,11 @@ returns-then-b-lt9218868437227405312 c =
     ∙ sym (log_parts b k f (omega arith) (omega arith) refl (omega arith))
     ∙ ap log_of (own c.args.x c.well_formed.0.1)
 
-pub returns : goal.returns
+pub returns-else-b-lt9218868437227405312 : goal.returns-else-b-lt9218868437227405312
 unfolding of_bits
-returns c =
-    let x = c.args.x in
-    nan_is
-    ∙ sym (elim c.if-x.branch [
-      | then-x+else-b-lt9218868437227405312 w ↦ ap log_of (plus_infinity x c.well_formed.0.1 w.if-x.true w.if-b-lt9218868437227405312.false) ∙ log_infinity
-      | else-x w ↦ no_log x w.if-x.false
-    ])
+returns-else-b-lt9218868437227405312 c =
+    nan_is ∙ sym (ap log_of (plus_infinity c.args.x c.well_formed.0.1 c.if-x.true c.if-b-lt9218868437227405312.false) ∙ log_infinity)
+
+pub returns-else-x : goal.returns-else-x
+unfolding of_bits
+returns-else-x c = nan_is ∙ sym (no_log c.args.x c.if-x.false)

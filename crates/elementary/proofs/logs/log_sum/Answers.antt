@@ -7,10 +7,10 @@ use Rattle.elementary.proofs.logs.log_sum.Goals as goal
 
 pub loop-j-init : goal.loop-j-init
 unfolding series
-loop-j-init c = (omega arith, rw (one_is, twenty_three_is))
+loop-j-init c = rw (one_is, twenty_three_is)
 
 pub loop-j-preserved : goal.loop-j-preserved
-loop-j-preserved c = (omega arith, series_step _ c.loop-j.j c.loop-j.invariant.1)
+loop-j-preserved c = rw c.from.ensures (series_step _ c.loop-j.j c.loop-j.invariant)
 
 pub returns : goal.returns
-returns c = sum_is _ _ refl (c.loop-j.invariant.1 ∙ ap (series _) (omega arith))
+returns c = sum_is _ _ refl (c.loop-j.invariant ∙ ap (series _) (omega arith))

@@ -1,10 +1,7 @@
 -- `elementary::logs::log_sum` meets its contract: after j turns t is `series q j`. Assumes nothing.
-use Rattle.std.proofs.Common.{◌≡◌, ◌-◌, ◌≤◌}
+use Rattle.std.proofs.Common.{◌≡◌}
 use Rattle.elementary.specs.Log.{series}
 use Rattle.elementary.proofs.logs.log_sum.Given as goal
 
 abbrev pub invariant-loop-j : goal.invariant-loop-j
-invariant-loop-j l = (l.j ≤ 11) × (l.t ≡ series l.q l.j)
-
-abbrev pub decreases-loop-j : goal.decreases-loop-j
-decreases-loop-j l = 11 - l.j
+invariant-loop-j l = l.t ≡ series l.q l.j
