@@ -4,6 +4,7 @@
 use mathlib.Core.Path.{◌≡◌, refl}
 use mathlib.Core.Bool.{false}
 use lib.Ieee.{binary64, round, add, sub, mul, div, neg, lt, eq, le, of_int, of_bits}
+use Rattle.std.specs.Prelude.{Some, None}
 use Rattle.arith.specs.F64.{f64}
 use Rattle.arith.specs.Printed.{printed, less}
 use Rattle.arith.specs.Power.{raised, power_of}
@@ -19,7 +20,7 @@ use Rattle.hot.specs.Region5.{ideal5, residual5, point5, gamma5, unrooted_of5, s
 use Rattle.dense.specs.Region3.{table3, point3, phi_of3, phi3, pressure_of3, pressure3, unrooted_at3, unrooted_of3, state_of3, state3}
 use Rattle.saturation_line.specs.Printed.{equation28, ts_of}
 use Rattle.saturation_line.specs.Pressure.{ps_of}
-use Rattle.saturation_line.specs.declared.SaturationPressure.TheVariants.{UpTo623, Above623, Nowhere}
+use Rattle.saturation_line.specs.declared.SaturationPressure.TheVariants.{UpTo623, Above623}
 
 -- Table A3: p = 3 MPa, T = 300 K
 pub region_1 : state1 (f64 3) (f64 300) ≡ record {
@@ -75,41 +76,41 @@ unfolding state5 state_of5 rooted_of unrooted_of5 gamma5 point5 ideal5 residual5
 region_5 = refl
 
 -- Table A12: the saturation pressure at 300 K, in MPa
-pub saturation_pressure_a12 : ps_of (f64 300) ≡ UpTo623 (of_bits binary64 0x3f6c_f8c3_fbc8_dfab)
+pub saturation_pressure_a12 : ps_of (f64 300) ≡ Some (UpTo623 (of_bits binary64 0x3f6c_f8c3_fbc8_dfab))
 unfolding ps_of equation28 add sub mul div neg lt eq le round of_int of_bits printed root_of root_units near_root floor_root
 saturation_pressure_a12 = refl
 
 -- P, the pressure at 623.15 K
-pub saturation_pressure : ps_of (printed false 62315 (less 2)) ≡ UpTo623 (of_bits binary64 0x4030_8777_4ef7_2605)
+pub saturation_pressure : ps_of (printed false 62315 (less 2)) ≡ Some (UpTo623 (of_bits binary64 0x4030_8777_4ef7_2605))
 unfolding ps_of equation28 add sub mul div neg lt eq le round of_int of_bits printed root_of root_units near_root floor_root
 saturation_pressure = refl
 
 -- one f64 above 623.15 K it is of the other case
-pub saturation_pressure_above : ps_of (of_bits binary64 0x4083_7933_3333_3334) ≡ Above623 (of_bits binary64 0x4030_8777_4ef7_2626)
+pub saturation_pressure_above : ps_of (of_bits binary64 0x4083_7933_3333_3334) ≡ Some (Above623 (of_bits binary64 0x4030_8777_4ef7_2626))
 unfolding ps_of equation28 add sub mul div neg lt eq le round of_int of_bits printed root_of root_units near_root floor_root
 saturation_pressure_above = refl
 
 -- and so at the critical temperature: 22.0640000003 MPa, where 002 has 22.064 for the critical pressure
-pub saturation_pressure_critical : ps_of (printed false 647096 (less 3)) ≡ Above623 (of_bits binary64 0x4036_1062_4dd4_5231)
+pub saturation_pressure_critical : ps_of (printed false 647096 (less 3)) ≡ Some (Above623 (of_bits binary64 0x4036_1062_4dd4_5231))
 unfolding ps_of equation28 add sub mul div neg lt eq le round of_int of_bits printed root_of root_units near_root floor_root
 saturation_pressure_critical = refl
 
 -- the line's lower end, 273.15 K
-pub saturation_pressure_at_273 : ps_of (of_bits binary64 0x4071_1266_6666_6666) ≡ UpTo623 (of_bits binary64 0x3f44_0739_3af2_73cc)
+pub saturation_pressure_at_273 : ps_of (of_bits binary64 0x4071_1266_6666_6666) ≡ Some (UpTo623 (of_bits binary64 0x3f44_0739_3af2_73cc))
 unfolding ps_of equation28 add sub mul div neg lt eq le round of_int of_bits printed root_of root_units near_root floor_root
 saturation_pressure_at_273 = refl
 
 -- one f64 outside its ends there is none
-pub no_saturation_pressure_below : ps_of (of_bits binary64 0x4071_1266_6666_6665) ≡ Nowhere
+pub no_saturation_pressure_below : ps_of (of_bits binary64 0x4071_1266_6666_6665) ≡ None
 unfolding ps_of lt eq le round of_int of_bits printed
 no_saturation_pressure_below = refl
 
-pub no_saturation_pressure_above : ps_of (of_bits binary64 0x4084_38c4_9ba5_e355) ≡ Nowhere
+pub no_saturation_pressure_above : ps_of (of_bits binary64 0x4084_38c4_9ba5_e355) ≡ None
 unfolding ps_of lt eq le round of_int of_bits printed
 no_saturation_pressure_above = refl
 
 -- and none at 700 K
-pub no_saturation_pressure_at_700 : ps_of (f64 700) ≡ Nowhere
+pub no_saturation_pressure_at_700 : ps_of (f64 700) ≡ None
 unfolding ps_of lt eq le round of_int of_bits printed
 no_saturation_pressure_at_700 = refl
 
