@@ -1,5 +1,5 @@
 -- What the settling layer publishes: a post judged, one halving, the state at the end. Definitions only.
-use Rattle.std.specs.Prelude.{ℕ, Bool, cond, ◌||◌, eqb, Float}
+use Rattle.std.specs.Prelude.{ℕ, Bool, cond, ◌||◌, eqb, Float, Result, Ok, Err}
 use Rattle.std.specs.Float.Ieee.{lt}
 use Rattle.brackets.specs.Brackets.{middle_of, half_of}
 use Rattle.equations.specs.Equations.{equation_of}
@@ -8,13 +8,13 @@ use Rattle.states.specs.Marks.{marked_of}
 use Rattle.places.specs.Places.{t273, t1073, place_py, liquid_end, vapour_start}
 use Rattle.brackets.specs.declared.Bracket.{Bracket}
 use Rattle.places.specs.declared.Side.{Side}
+use Rattle.refusals.specs.declared.Refusal.{Refusal}
 use Rattle.workings.specs.declared.Given.{Given}
 use Rattle.workings.specs.declared.Given.TheVariants.{Enthalpy, Entropy}
 use Rattle.equations.specs.declared.Phase.{Phase}
 use Rattle.equations.specs.declared.Phase.TheVariants.{Liquid, Vapour}
 use Rattle.settle.specs.declared.Settled.{Settled}
 use Rattle.settle.specs.declared.Judged.{Judged}
-use Rattle.settle.specs.declared.Judged.TheVariants.{Refused, Within}
 
 -- the kinds that may be posted: 2 is (p,h), 3 is (p,s)
 abbrev pub posted_of : ℕ → Bool
@@ -29,14 +29,14 @@ unfoldable pub bracket_of : Phase → Float → Bracket
 bracket_of Liquid p = record { lo = t273; hi = liquid_end p }
 bracket_of Vapour p = record { lo = vapour_start p; hi = t1073 }
 
--- A query is placed as everywhere; a wet one is refused by 8, since one phase is needed.
-abbrev pub judged_by : Float → Side → Judged
-judged_by p (Side.Phase phase) = Within phase (bracket_of phase p).lo (bracket_of phase p).hi
-judged_by p (Side.Wet t) = Refused 8
-judged_by p (Side.Refused n) = Refused n
+-- A query is placed as everywhere; a wet one is refused, since one phase is needed.
+abbrev pub judged_by : Float → Result Side Refusal → Result Judged Refusal
+judged_by p (Ok (Side.Phase phase)) = let b = bracket_of phase p in Ok (record { phase = phase; lo = b.lo; hi = b.hi })
+judged_by p (Ok (Side.Wet t)) = Err Refusal.NoDerivative
+judged_by p (Err refusal) = Err refusal
 
-unfoldable pub judged_of : ℕ → Float → Float → Judged
-judged_of kind p y = cond (posted_of kind) (judged_by p (place_py (given_of kind) p y)) (Refused 9)
+unfoldable pub judged_of : ℕ → Float → Float → Result Judged Refusal
+judged_of kind p y = cond (posted_of kind) (judged_by p (place_py (given_of kind) p y)) (Err Refusal.UnknownNumber)
 
 -- y(p,t) < y asked
 unfoldable pub below_of : ℕ → Phase → Float → Float → Float → Bool

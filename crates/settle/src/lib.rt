@@ -5,21 +5,23 @@
 
 mod naming;
 
-ghost use Rattle.std.specs.Prelude.{◌≡◌};
+ghost use Rattle.std.specs.Prelude.{◌≡◌, cond, Some, None};
 ghost use Rattle.settle.specs.Settle.{posted_of, given_of, bracket_of, judged_of, halved_of, settled_of};
 
 use brackets::{Bracket, half, middle};
 use equations::{Phase, equation_of};
 pub use naming::{phase, region};
 use places::{Side, place_py};
+use refusals::Refusal;
 use states::Single;
 use workings::Given;
 
-// What judging a post finds: the refusal's number, or the phase and the bracket to halve.
+// What judging a post finds: the phase, and the bracket lo to hi in K to halve.
 #[derive(Clone, Copy)]
-pub enum Judged {
-    Refused(u64),
-    Within { phase: Phase, lo: f64, hi: f64 },
+pub struct Judged {
+    pub phase: Phase,
+    pub lo: f64,
+    pub hi: f64,
 }
 
 // What a collect hands out: the state of one phase that the halvings settled, with its mark.
@@ -28,22 +30,22 @@ pub struct Settled {
     pub single: Single,
 }
 
-// Whether a kind may be posted: 2, (p,h), or 3, (p,s).
-fn posted(kind: u64) -> bool
-    ensures { result ≡ posted_of kind }
+// What a kind that may be posted gives beside p: 2, (p,h), gives h, and 3, (p,s), gives s.
+fn posted(kind: u64) -> Option<Given>
+    ensures { result ≡ cond (posted_of kind) (Some (given_of kind)) None }
 {
-    kind == 2 || kind == 3
+    match kind {
+        2 => Some(Given::Enthalpy),
+        3 => Some(Given::Entropy),
+        _ => None,
+    }
 }
 
-// What a kind gives beside p: 2 gives h, any other s.
+// What the kind of a row gives beside p. A row of a sound desk has no other than 2 and 3.
 fn given(kind: u64) -> Given
     ensures { result ≡ given_of kind }
 {
-    if kind == 2 {
-        Given::Enthalpy
-    } else {
-        Given::Entropy
-    }
+    posted(kind).unwrap_or(Given::Entropy)
 }
 
 // The temperature bracket in K of a phase at p: liquid from 273.15 K, vapour up to 1073.15 K.
@@ -63,23 +65,20 @@ fn first_bracket(phase: Phase, p: f64) -> Bracket
 }
 
 // A post of kind 2, (p,h), or 3, (p,s), judged. Another kind is refused by 9, a wet query by 8.
-pub fn judge(kind: u64, p: f64, y: f64) -> Judged
+pub fn judge(kind: u64, p: f64, y: f64) -> Result<Judged, Refusal>
     ensures { result ≡ judged_of kind p y }
 {
-    if !posted(kind) {
-        return Judged::Refused(9);
-    }
-    match place_py(given(kind), p, y) {
+    let given = posted(kind).ok_or(Refusal::UnknownNumber)?;
+    match place_py(given, p, y)? {
         Side::Phase(phase) => {
             let b = first_bracket(phase, p);
-            Judged::Within {
+            Ok(Judged {
                 phase,
                 lo: b.lo,
                 hi: b.hi,
-            }
+            })
         }
-        Side::Wet(_) => Judged::Refused(8),
-        Side::Refused(n) => Judged::Refused(n),
+        Side::Wet(_) => Err(Refusal::NoDerivative),
     }
 }
 
