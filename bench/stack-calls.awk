@@ -18,7 +18,9 @@ declared != "" && /^    [A-Za-z]/ {
     while ($0 !~ /[)]/) { text = $0; if (getline <= 0) { break } sub(/^ +/, ""); $0 = text $0 }
     called[++calls] = crate "::" (owner == "" ? "" : owner "::") behind("fn ", before("[(]", $0))
     taken[calls] = before("[)]", behind("[(]", $0))
-    given[calls] = $NF == "Self" ? owner : $NF
+    given[calls] = $0 ~ /-> / ? behind("-> ", $0) : ""
+    sub(/ [{]$/, "", given[calls])
+    if (given[calls] == "Self") { given[calls] = owner }
 }
 /^ *pub [a-z].* fn / && index(" " asked " ", " " crate " ") { fail("a public call of a form that is not provided for: " $0) }
 /^pub use / && index(" " asked " ", " " crate " ") {
@@ -34,6 +36,14 @@ function all(value, type) {
     if (type == "f64") { return value }
     if (type == "u64") { return "(if " value " == 0 { 0.0 } else { 1.0 })" }
     if (type == "bool") { return "(if " value " { 1.0 } else { 0.0 })" }
+    if (type ~ /^Option</) {
+        sub(/^Option</, "", type); sub(/>$/, "", type)
+        return "match " value " { Some(b) => " all("b", type) ", None => 0.0 }"
+    }
+    if (type ~ /^Result<.*, Refusal>$/) {
+        sub(/^Result</, "", type); sub(/, Refusal>$/, "", type)
+        return "match " value " { Ok(b) => " all("b", type) ", Err(e) => " all("e", "Refusal") " }"
+    }
     if (!(type in full)) { fail("no declaration of the type " type) }
     needed[type] = 1
     return "all_" tolower(type) "(" value ")"
