@@ -4,18 +4,20 @@ use Prim.Native.Nat.{ℕ, ◌+◌, ◌*◌, ◌/◌, ◌%◌, ◌≤◌}
 use native.Mathlib.Omega.{arith}
 use mathlib.Core.Path.{◌≡◌, refl}
 use mathlib.Core.Bool.{Bool, true, false, cond}
-use mathlib.Core.List.{List, [], ◌++◌}
+use mathlib.Core.List.{List, []}
 use lib.Dec.{ltb, eqb}
 use lib.ListN.{length, take, get_or, length-append, length-take}
-use Rattle.text.specs.Texts.{joined, newline}
+use Rattle.text.specs.Texts.{newline}
 use Rattle.text.proofs.Lengths.{joined_short}
 use Rattle.sheet.specs.declared.rows.Point.{Point}
 use Rattle.sheet.specs.Read.{read_of}
 use Rattle.sheet.specs.Rows.{row_of}
-use Rattle.sheet.specs.declared.reader.Reading.{Reading}
-use Rattle.sheet.specs.declared.reader.Reading.TheVariants.{Rows, Refused}
+use Rattle.std.proofs.Common.{Result, Ok, Err}
+use Rattle.refusals.specs.Refusals.{number_of}
+use Rattle.refusals.specs.declared.Refusal.{Refusal}
+use Rattle.sheet.specs.declared.reader.Rows.{Rows}
 use Rattle.sheet.proofs.ReadLaws.{trailer_rows, read_inv, read_fits}
-use Rattle.row_lines.specs.Lines.{refused_line, asked_of, triple_line, quotient_lines}
+use Rattle.row_lines.specs.Lines.{asked_of, triple_line, quotient_lines}
 use Rattle.row_lines.proofs.Fits.{refused_short, verdict_short, answer_short, quotient_short}
 use Rattle.listing.specs.Listings.{longest, opened_of, header_of, row_line, line_at, listed_of, regions_text, answers_text, in_triples, triples_of, quotients_head, quotients_row}
 use Rattle.listing.specs.declared.Listing.{Listing}
@@ -30,13 +32,13 @@ row_short Answers number row = answer_short number row
 
 -- ---- texts
 
-opened_few : (s : List ℕ) (count start : ℕ) → opened_of s ≡ Rows count start → (count ≤ 2500) × (start ≤ 4096)
+opened_few : (s : List ℕ) (rows : Rows) → opened_of s ≡ Ok rows → (rows.count ≤ 2500) × (rows.start ≤ 4096)
 unfolding opened_of
-opened_few s count start e = go (ltb longest (length s)) e
+opened_few s rows e = go (ltb longest (length s)) e
   where
-    go : (t : Bool) → cond t (Refused 23) (read_of s) ≡ Rows count start → (count ≤ 2500) × (start ≤ 4096)
-    go true h = absurd (let z : ◌≡◌ {A = ℕ} 0 1 = cc in omega arith)
-    go false h = ((read_fits s count start h).1, (trailer_rows s count start (read_inv s count start h).0).1.1.short_note)
+    go : (t : Bool) → cond t (Err Refusal.Layout) (read_of s) ≡ Ok rows → (rows.count ≤ 2500) × (rows.start ≤ 4096)
+    go true h = absurd cc
+    go false h = ((read_fits s rows.count rows.start h).1, (trailer_rows s rows.count rows.start (read_inv s rows.count rows.start h).0).1.1.short_note)
 
 listed_short : (listing : Listing) (s : List ℕ) → length (listed_of listing s (opened_of s)) ≤ 600000
 unfolding listed_of header_of
@@ -46,17 +48,11 @@ listed_short listing s = go listing (opened_of s) refl
     head Regions = omega arith
     head Answers = omega arith
 
-    rows : (l : Listing) (count start : ℕ) → count ≤ 2500 → length (header_of l ++ joined (line_at l s start) count) ≤ 600000
-    rows l count start h =
-        simp length-append (omega (arith, h, head l, joined_short (line_at l s start) 239 count (λ k. row_short l (k + 1) (row_of s start k))))
-
-    refused : (l : Listing) (n : ℕ) (t : Bool) → length (cond t (header_of l ++ joined (line_at l s 0) 0) (refused_line n)) ≤ 600000
-    refused l n true = rows l 0 0 (omega arith)
-    refused l n false = omega (arith, refused_short n)
-
-    go : (l : Listing) (r : Reading) → opened_of s ≡ r → length (listed_of l s r) ≤ 600000
-    go l (Refused n) e = refused l n (eqb n 0)
-    go l (Rows count start) e = rows l count start (opened_few s count start e).0
+    go : (l : Listing) (r : Result Rows Refusal) → opened_of s ≡ r → length (listed_of l s r) ≤ 600000
+    go l (Err refusal) e = omega (arith, refused_short (number_of refusal))
+    go l (Ok rows) e =
+        simp length-append
+        (omega (arith, opened_few s rows e, head l, joined_short (line_at l s rows.start) 239 rows.count (λ k. row_short l (k + 1) (row_of s rows.start k))))
 
 -- what `regions` and `answers` lend
 pub regions_fits : (s : List ℕ) → length (regions_text s) ≤ 600000
@@ -72,23 +68,23 @@ lines_short number row note h =
     omega (arith, joined_short (triple_line number row note) 122 (length note / 3) (λ i. quotient_short number row (get_or note (3 * i) 0) (get_or note (3 * i + 1) 0) (get_or note (3 * i + 2) 0)))
 
 -- what `quotients` lends
-pub quotients_head_fits : (r : Reading) → length (quotients_head r) ≤ 262144
+pub quotients_head_fits : (r : Result Rows Refusal) → length (quotients_head r) ≤ 262144
 unfolding quotients_head
-quotients_head_fits (Refused n) = omega (arith, refused_short n)
-quotients_head_fits (Rows count start) = omega arith
+quotients_head_fits (Err refusal) = omega (arith, refused_short (number_of refusal))
+quotients_head_fits (Ok rows) = omega arith
 
 pub quotients_fits : (s : List ℕ) (k : ℕ) → length (quotients_row s (triples_of s) k) ≤ 262144
 unfolding quotients_row in_triples
 quotients_fits s k = go (opened_of s) refl
   where
-    row : (count start : ℕ) (b : Bool) → start ≤ 4096 → length (quotients_row s (cond b (Rows count start) (Refused 23)) k) ≤ 262144
-    row count start false h = omega arith
-    row count start true h = here (ltb k count)
+    row : (rows : Rows) (b : Bool) → rows.start ≤ 4096 → length (quotients_row s (cond b (Ok rows) (Err Refusal.Layout)) k) ≤ 262144
+    row rows false h = omega arith
+    row rows true h = here (ltb k rows.count)
       where
-        here : (t : Bool) → length (cond t (quotient_lines (k + 1) (row_of s start k) (take start s)) []) ≤ 262144
-        here true = lines_short (k + 1) (row_of s start k) (take start s) (omega (arith, length-take start s))
+        here : (t : Bool) → length (cond t (quotient_lines (k + 1) (row_of s rows.start k) (take rows.start s)) []) ≤ 262144
+        here true = lines_short (k + 1) (row_of s rows.start k) (take rows.start s) (omega (arith, length-take rows.start s))
         here false = omega arith
 
-    go : (r : Reading) → opened_of s ≡ r → length (quotients_row s (in_triples r) k) ≤ 262144
-    go (Refused n) e = omega arith
-    go (Rows count start) e = row count start (eqb (start % 3) 0) (opened_few s count start e).1
+    go : (r : Result Rows Refusal) → opened_of s ≡ r → length (quotients_row s (in_triples r) k) ≤ 262144
+    go (Err refusal) e = omega arith
+    go (Ok rows) e = row rows (eqb (rows.start % 3) 0) (opened_few s rows e).1

@@ -1,9 +1,10 @@
 -- The texts of the sheet programs `regions`, `answers` and `quotients`. Definitions only.
-use Rattle.std.specs.Prelude.{ℕ, ◌+◌, ◌%◌, cond, List, [], ◌∷◌, ◌++◌, length, take, ltb, eqb}
-use Rattle.sheet.specs.Read.{number_of, count_of, start_of, read_of}
+use Rattle.std.specs.Prelude.{ℕ, ◌+◌, ◌%◌, cond, List, [], ◌∷◌, ◌++◌, length, take, ltb, eqb, Result, Ok, Err}
+use Rattle.refusals.specs.Refusals.{number_of}
+use Rattle.refusals.specs.declared.Refusal.{Refusal}
+use Rattle.sheet.specs.Read.{read_of}
 use Rattle.sheet.specs.Rows.{row_of}
-use Rattle.sheet.specs.declared.reader.Reading.{Reading}
-use Rattle.sheet.specs.declared.reader.Reading.TheVariants.{Rows, Refused}
+use Rattle.sheet.specs.declared.reader.Rows.{Rows}
 use Rattle.sheet.specs.declared.rows.Point.{Point}
 use Rattle.listing.specs.declared.Listing.{Listing}
 use Rattle.listing.specs.declared.Listing.TheVariants.{Regions, Answers}
@@ -15,8 +16,8 @@ abbrev pub longest : ℕ
 longest = 28112
 
 -- what comes in is read as a sheet, unless it is longer than any
-unfoldable pub opened_of : List ℕ → Reading
-opened_of s = cond (ltb longest (length s)) (Refused 23) (read_of s)
+unfoldable pub opened_of : List ℕ → Result Rows Refusal
+opened_of s = cond (ltb longest (length s)) (Err Refusal.Layout) (read_of s)
 
 -- ---- regions and answers
 
@@ -36,8 +37,9 @@ abbrev pub line_at : Listing → List ℕ → ℕ → ℕ → List ℕ
 line_at listing s start k = row_line listing (k + 1) (row_of s start k)
 
 -- the header and a line a row; of a refused sheet only its number
-unfoldable pub listed_of : Listing → List ℕ → Reading → List ℕ
-listed_of listing s r = cond (eqb (number_of r) 0) (header_of listing ++ joined (line_at listing s (start_of r)) (count_of r)) (refused_line (number_of r))
+unfoldable pub listed_of : Listing → List ℕ → Result Rows Refusal → List ℕ
+listed_of listing s (Ok rows) = header_of listing ++ joined (line_at listing s rows.start) rows.count
+listed_of listing s (Err refusal) = refused_line (number_of refusal)
 
 abbrev pub regions_text : List ℕ → List ℕ
 regions_text s = listed_of Regions s (opened_of s)
@@ -48,19 +50,19 @@ answers_text s = listed_of Answers s (opened_of s)
 -- ---- quotients
 
 -- the note must be triples
-unfoldable pub in_triples : Reading → Reading
-in_triples (Refused number) = Refused number
-in_triples (Rows count start) = cond (eqb (start % 3) 0) (Rows count start) (Refused 23)
+unfoldable pub in_triples : Result Rows Refusal → Result Rows Refusal
+in_triples (Err refusal) = Err refusal
+in_triples (Ok rows) = cond (eqb (rows.start % 3) 0) (Ok rows) (Err Refusal.Layout)
 
-abbrev pub triples_of : List ℕ → Reading
+abbrev pub triples_of : List ℕ → Result Rows Refusal
 triples_of s = in_triples (opened_of s)
 
 -- `row z x y answer value`, or what is said of a refused sheet
-unfoldable pub quotients_head : Reading → List ℕ
-quotients_head (Refused number) = refused_line number
-quotients_head (Rows count start) = 114 ∷ 111 ∷ 119 ∷ 32 ∷ 122 ∷ 32 ∷ 120 ∷ 32 ∷ 121 ∷ 32 ∷ 97 ∷ 110 ∷ 115 ∷ 119 ∷ 101 ∷ 114 ∷ 32 ∷ 118 ∷ 97 ∷ 108 ∷ 117 ∷ 101 ∷ newline ∷ []
+unfoldable pub quotients_head : Result Rows Refusal → List ℕ
+quotients_head (Err refusal) = refused_line (number_of refusal)
+quotients_head (Ok rows) = 114 ∷ 111 ∷ 119 ∷ 32 ∷ 122 ∷ 32 ∷ 120 ∷ 32 ∷ 121 ∷ 32 ∷ 97 ∷ 110 ∷ 115 ∷ 119 ∷ 101 ∷ 114 ∷ 32 ∷ 118 ∷ 97 ∷ 108 ∷ 117 ∷ 101 ∷ newline ∷ []
 
 -- row k's lines, one for each triple of the note; none where there is no such row
-unfoldable pub quotients_row : List ℕ → Reading → ℕ → List ℕ
-quotients_row s (Refused number) k = []
-quotients_row s (Rows count start) k = cond (ltb k count) (quotient_lines (k + 1) (row_of s start k) (take start s)) []
+unfoldable pub quotients_row : List ℕ → Result Rows Refusal → ℕ → List ℕ
+quotients_row s (Err refusal) k = []
+quotients_row s (Ok rows) k = cond (ltb k rows.count) (quotient_lines (k + 1) (row_of s rows.start k) (take rows.start s)) []

@@ -6,8 +6,9 @@ ghost use Rattle.row_lines.specs.Lines.{quotient_lines};
 ghost use Rattle.listing.specs.Listings.{quotients_head, quotients_row};
 
 use crate::opening::note;
+use refusals::Refusal;
 use row_lines::{quotient_line, refused};
-use sheet::{Point, Reading};
+use sheet::{Point, Rows};
 
 // Writes a row's line for each triple of the note in turn.
 fn lines(number: u64, row: Point, note: &[u8], out: &mut [u8]) -> usize
@@ -30,28 +31,28 @@ fn lines(number: u64, row: Point, note: &[u8], out: &mut [u8]) -> usize
 }
 
 // The head of the text: the header, or of a refused sheet its number.
-pub fn quotients_head(reading: Reading, out: &mut [u8]) -> usize
+pub fn quotients_head(reading: Result<Rows, Refusal>, out: &mut [u8]) -> usize
     ensures { Written out.old 0 (quotients_head reading) out.new result }
 {
     match reading {
-        Reading::Refused(number) => refused(number, out),
-        Reading::Rows { count: _, start: _ } => text::bytes(b"row z x y answer value\n", out, 0),
+        Err(refusal) => refused(refusal.number(), out),
+        Ok(_) => text::bytes(b"row z x y answer value\n", out, 0),
     }
 }
 
 // The lines of row k, counted from 0, of a sheet that was read by `triples`; nothing where it has no
 // such row.
-pub fn quotients(sheet: &[u8], reading: Reading, k: usize, out: &mut [u8]) -> usize
+pub fn quotients(sheet: &[u8], reading: Result<Rows, Refusal>, k: usize, out: &mut [u8]) -> usize
     ensures { Written out.old 0 (quotients_row sheet.now reading k) out.new result }
 {
     match reading {
-        Reading::Refused(_) => 0,
-        Reading::Rows { count, start } => {
-            if k < count {
+        Err(_) => 0,
+        Ok(rows) => {
+            if k < rows.count {
                 lines(
                     k as u64 + 1,
-                    sheet::row(sheet, start, k),
-                    note(sheet, start),
+                    sheet::row(sheet, rows.start, k),
+                    note(sheet, rows.start),
                     out,
                 )
             } else {

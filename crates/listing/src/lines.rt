@@ -6,7 +6,7 @@ ghost use Rattle.listing.specs.Listings.{header_of, row_line, line_at};
 
 use crate::Listing;
 use row_lines::{answer_line, region_line};
-use sheet::Point;
+use sheet::{Point, Rows};
 
 // Writes a listing's header.
 pub(crate) fn header(listing: Listing, out: &mut [u8]) -> usize
@@ -32,20 +32,14 @@ fn line(listing: Listing, number: u64, row: Point, out: &mut [u8], at: usize) ->
     }
 }
 
-// Writes the lines of the first n rows, numbered from 1.
-pub(crate) fn lines(
-    listing: Listing,
-    sheet: &[u8],
-    start: usize,
-    n: usize,
-    out: &mut [u8],
-    at: usize,
-) -> usize
-    ensures { Written out.old at (joined (line_at listing sheet.now start) n) out.new result }
+// Writes the lines of the rows, numbered from 1.
+pub(crate) fn lines(listing: Listing, sheet: &[u8], rows: Rows, out: &mut [u8], at: usize) -> usize
+    ensures { Written out.old at (joined (line_at listing sheet.now rows.start) rows.count) out.new result }
 {
     let mut p = at;
-    for k in 0..n {
-        p = line(listing, k as u64 + 1, sheet::row(sheet, start, k), out, p);
+    for k in 0..rows.count {
+        let row = sheet::row(sheet, rows.start, k);
+        p = line(listing, k as u64 + 1, row, out, p);
     }
     p
 }

@@ -11,13 +11,13 @@ use row_lines::refused;
 fn listed(listing: Listing, sheet: &[u8], out: &mut [u8]) -> usize
     ensures { Written out.old 0 (listed_of listing sheet.now (opened_of sheet.now)) out.new result }
 {
-    let r = opened(sheet);
-    let number = r.number();
-    if number != 0 {
-        return refused(number, out);
+    match opened(sheet) {
+        Ok(rows) => {
+            let at = header(listing, out);
+            lines(listing, sheet, rows, out, at)
+        }
+        Err(refusal) => refused(refusal.number(), out),
     }
-    let at = header(listing, out);
-    lines(listing, sheet, r.start(), r.count(), out, at)
 }
 
 // The text of `regions`: row number, kind, refusal and region of each row.

@@ -8,7 +8,8 @@ ghost use Rattle.text.specs.Room.{Whole};
 ghost use Rattle.sheet.specs.Read.{count_of};
 ghost use Rattle.listing.specs.Listings.{triples_of, quotients_head, quotients_row};
 
-use sheet::Reading;
+use refusals::Refusal;
+use sheet::Rows;
 use std::io;
 
 // The lines of no row are longer: a note has at most 1,365 triples, and a triple one line of at most 122
@@ -16,7 +17,7 @@ use std::io;
 const ROOM: usize = 262144;
 
 // Writes the head of the listing: this room holds every one, so that none is cut.
-fn head(reading: Reading, room: &mut [u8; ROOM]) -> usize
+fn head(reading: Result<Rows, Refusal>, room: &mut [u8; ROOM]) -> usize
     ensures { Whole room.new (quotients_head reading) result }
 {
     listing::quotients_head(reading, room)
@@ -24,7 +25,7 @@ fn head(reading: Reading, room: &mut [u8; ROOM]) -> usize
 
 // Writes the lines of row k, counted from 0, of a sheet that was read: this room holds those of every
 // row, so that none is cut.
-fn row(sheet: &[u8], reading: Reading, k: usize, room: &mut [u8; ROOM]) -> usize
+fn row(sheet: &[u8], reading: Result<Rows, Refusal>, k: usize, room: &mut [u8; ROOM]) -> usize
     requires { reading ≡ triples_of sheet.now }
     ensures { Whole room.new (quotients_row sheet.now (triples_of sheet.now) k) result }
 {
@@ -40,7 +41,7 @@ fn print(rt: &impl Print, sheet: &[u8]) -> io::Result<usize>
     let end = head(reading, &mut room);
     streams::write_all(rt, &room[..end])?;
     let mut listed = 0;
-    for k in 0..reading.count() {
+    for k in 0..sheet::count(reading) {
         let end = row(sheet, reading, k, &mut room);
         streams::write_all(rt, &room[..end])?;
         listed += 1;

@@ -6,28 +6,28 @@ use lib.ListN.{length, get_or, length-append}
 use Rattle.text.specs.Texts.{joined, blank, newline}
 use Rattle.text.proofs.Lengths.{digits, column_short, joined_short}
 use Rattle.arith.specs.Bits.{float_of}
-use Rattle.reply.specs.Answers.{number_of, region_of, values_of}
+use Rattle.std.proofs.Common.{Float, Option, None, Result}
+use Rattle.std.specs.Result.{result_ok}
+use Rattle.refusals.specs.Refusals.{number_in}
+use Rattle.refusals.specs.declared.Refusal.{Refusal}
+use Rattle.reply.specs.Answers.{region_of, values_of}
 use Rattle.reply.specs.declared.Answer.{Answer}
-use Rattle.slopes.specs.Answers as Slopes
 use Rattle.sums.specs.Quotients.{quotient_of}
-use Rattle.properties.specs.declared.Value.{Value}
-use Rattle.properties.specs.declared.Value.TheVariants.{Missing}
 use Rattle.sheet.specs.declared.rows.Point.{Point}
-use Rattle.cells.specs.Cells.{cell_of}
 use Rattle.row_lines.specs.Lines.{asked_of, verdict_of, value_column, value_columns, answer_line, quotient_line, refused_line}
 
 pub refused_short : (n : ℕ) → length (refused_line n) ≤ 29
 unfolding refused_line
 refused_short n = simp length-append (omega (arith, digits n))
 
-pub verdict_short : (number kind : ℕ) (a : Answer) (end : ℕ) → length (verdict_of number kind a end) ≤ 84
+pub verdict_short : (number kind : ℕ) (a : Result Answer Refusal) (end : ℕ) → length (verdict_of number kind a end) ≤ 84
 unfolding verdict_of
-verdict_short number kind a end = simp length-append (omega (arith, digits number, digits kind, digits (number_of a), digits (region_of a)))
+verdict_short number kind a end = simp length-append (omega (arith, digits number, digits kind, digits (number_in a), digits (region_of a)))
 
-value_short : (values : List Value) (end i : ℕ) → length (value_column values end i) ≤ 17
-value_short values end i = simp length-append (omega (arith, column_short (cell_of (get_or values i Missing))))
+value_short : (values : List (Option Float)) (end i : ℕ) → length (value_column values end i) ≤ 17
+value_short values end i = simp length-append (omega (arith, column_short (get_or values i None)))
 
-values_short : (values : List Value) → length (value_columns values) ≤ 153
+values_short : (values : List (Option Float)) → length (value_columns values) ≤ 153
 unfolding value_columns
 values_short values =
     omega
@@ -43,4 +43,4 @@ pub quotient_short : (number : ℕ) (row : Point) (z x y : ℕ) → length (quot
 unfolding quotient_line
 quotient_short number row z x y =
     let q = quotient_of row.kind (float_of row.first) (float_of row.second) z x y in
-    simp length-append (omega (arith, digits number, digits z, digits x, digits y, digits (Slopes.number_of q), column_short (cell_of (Slopes.value_of q))))
+    simp length-append (omega (arith, digits number, digits z, digits x, digits y, digits (number_in q), column_short (result_ok q)))

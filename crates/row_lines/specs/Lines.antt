@@ -1,16 +1,15 @@
 -- The lines of the sheet programs, as bytes of ASCII: columns with a blank between them, and a newline at the end. Definitions only.
-use Rattle.std.specs.Prelude.{ℕ, ◌+◌, ◌*◌, ◌/◌, Bool, true, false, cond, List, [], ◌∷◌, ◌++◌, eqb, length, get_or}
+use Rattle.std.specs.Prelude.{ℕ, ◌+◌, ◌*◌, ◌/◌, Bool, true, false, cond, List, [], ◌∷◌, ◌++◌, eqb, length, get_or, Float, Option, None, Result}
+use Rattle.std.specs.Result.{result_ok}
 use Rattle.arith.specs.Bits.{float_of}
-use Rattle.cells.specs.Cells.{cell_of}
 use Rattle.text.specs.Texts.{column_of, blank, newline, number_column, joined}
 use Rattle.sheet.specs.declared.rows.Point.{Point}
-use Rattle.reply.specs.Answers.{number_of, region_of, mark_of, values_of}
+use Rattle.refusals.specs.Refusals.{number_in}
+use Rattle.refusals.specs.declared.Refusal.{Refusal}
+use Rattle.reply.specs.Answers.{region_of, mark_of, values_of}
 use Rattle.sums.specs.Queries.{answer_of}
 use Rattle.sums.specs.Quotients.{quotient_of}
 use Rattle.reply.specs.declared.Answer.{Answer}
-use Rattle.properties.specs.declared.Value.{Value}
-use Rattle.properties.specs.declared.Value.TheVariants.{Missing}
-use Rattle.slopes.specs.Answers as Slopes
 
 -- `refused N`, all that is said of a refused sheet
 unfoldable pub refused_line : ℕ → List ℕ
@@ -19,12 +18,12 @@ refused_line n = (114 ∷ 101 ∷ 102 ∷ 117 ∷ 115 ∷ 101 ∷ 100 ∷ 32 ∷
 -- ---- regions and answers
 
 -- the query of a row
-abbrev pub asked_of : Point → Answer
+abbrev pub asked_of : Point → Result Answer Refusal
 asked_of row = answer_of row.kind (float_of row.first) (float_of row.second)
 
 -- the row's number, its kind, the refusal and the region
-unfoldable pub verdict_of : ℕ → ℕ → Answer → ℕ → List ℕ
-verdict_of number kind a end = number_column number blank ++ number_column kind blank ++ number_column (number_of a) blank ++ number_column (region_of a) end
+unfoldable pub verdict_of : ℕ → ℕ → Result Answer Refusal → ℕ → List ℕ
+verdict_of number kind a end = number_column number blank ++ number_column kind blank ++ number_column (number_in a) blank ++ number_column (region_of a) end
 
 abbrev pub region_line : ℕ → Point → List ℕ
 region_line number row = verdict_of number row.kind (asked_of row) newline
@@ -34,14 +33,14 @@ abbrev pub digit_of : Bool → ℕ
 digit_of true = 49
 digit_of false = 48
 
-abbrev pub mark_byte : Answer → ℕ
+abbrev pub mark_byte : Result Answer Refusal → ℕ
 mark_byte a = cond (eqb (region_of a) 0) 45 (digit_of (mark_of a))
 
 -- one of the nine values p, T, v, u, h, s, cp, w, x
-abbrev pub value_column : List Value → ℕ → ℕ → List ℕ
-value_column values end i = column_of (cell_of (get_or values i Missing)) ++ end ∷ []
+abbrev pub value_column : List (Option Float) → ℕ → ℕ → List ℕ
+value_column values end i = column_of (get_or values i None) ++ end ∷ []
 
-unfoldable pub value_columns : List Value → List ℕ
+unfoldable pub value_columns : List (Option Float) → List ℕ
 value_columns values = joined (value_column values blank) 8 ++ value_column values newline 8
 
 unfoldable pub answer_line : ℕ → Point → List ℕ
@@ -53,8 +52,8 @@ answer_line number row = let a = asked_of row in verdict_of number row.kind a bl
 unfoldable pub quotient_line : ℕ → Point → ℕ → ℕ → ℕ → List ℕ
 quotient_line number row z x y =
     let q = quotient_of row.kind (float_of row.first) (float_of row.second) z x y in
-    number_column number blank ++ number_column z blank ++ number_column x blank ++ number_column y blank ++ number_column (Slopes.number_of q) blank
-    ++ (column_of (cell_of (Slopes.value_of q)) ++ newline ∷ [])
+    number_column number blank ++ number_column z blank ++ number_column x blank ++ number_column y blank ++ number_column (number_in q) blank
+    ++ (column_of (result_ok q) ++ newline ∷ [])
 
 -- the line of the note's triple i
 abbrev pub triple_line : ℕ → Point → List ℕ → ℕ → List ℕ

@@ -4,12 +4,12 @@ ghost use Rattle.text.specs.Room.{Written};
 ghost use Rattle.reply.specs.Answers.{values_of};
 ghost use Rattle.row_lines.specs.Lines.{asked_of, verdict_of, digit_of, mark_byte, value_columns};
 
-use cells::cell;
+use refusals::Refusal;
 use reply::Answer;
 use sheet::Point;
 
 // The query of a row.
-pub(crate) fn asked(row: Point) -> Answer
+pub(crate) fn asked(row: Point) -> Result<Answer, Refusal>
     ensures { result ≡ asked_of row }
 {
     sums::query(
@@ -23,7 +23,7 @@ pub(crate) fn asked(row: Point) -> Answer
 pub(crate) fn verdict(
     number: u64,
     kind: u64,
-    a: Answer,
+    a: Result<Answer, Refusal>,
     end: u8,
     out: &mut [u8],
     at: usize,
@@ -32,7 +32,7 @@ pub(crate) fn verdict(
 {
     let at = text::decimal(number, b' ', out, at);
     let at = text::decimal(kind, b' ', out, at);
-    let at = text::decimal(reply::number(a), b' ', out, at);
+    let at = text::decimal(refusals::number(a), b' ', out, at);
     text::decimal(reply::region(a), end, out, at)
 }
 
@@ -44,7 +44,7 @@ fn digit(mark: bool) -> u8
 }
 
 // The mark of an answer: 1 verified, 0 not, and `-` for a refusal, which has no region.
-pub(crate) fn mark(a: Answer) -> u8
+pub(crate) fn mark(a: Result<Answer, Refusal>) -> u8
     ensures { result ≡ mark_byte a }
 {
     if reply::region(a) == 0 {
@@ -55,14 +55,14 @@ pub(crate) fn mark(a: Answer) -> u8
 }
 
 // Writes the nine values of an answer, which end its line.
-pub(crate) fn values(a: Answer, out: &mut [u8], at: usize) -> usize
+pub(crate) fn values(a: Result<Answer, Refusal>, out: &mut [u8], at: usize) -> usize
     ensures { Written out.old at (value_columns (values_of a)) out.new result }
 {
     let values = reply::values(a);
     let mut p = at;
     for k in 0..8 {
-        p = text::column(cell(values[k]), b' ', out, p);
+        p = text::column(values[k], b' ', out, p);
     }
     let x = values[8];
-    text::column(cell(x), b'\n', out, p)
+    text::column(x, b'\n', out, p)
 }

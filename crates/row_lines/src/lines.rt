@@ -4,7 +4,6 @@ ghost use Rattle.text.specs.Room.{Written};
 ghost use Rattle.row_lines.specs.Lines.{refused_line, region_line, answer_line, quotient_line};
 
 use crate::columns::{asked, mark, values, verdict};
-use cells::cell;
 use sheet::Point;
 
 // Writes `refused N`, all that is said of a refused sheet.
@@ -52,6 +51,6 @@ pub fn quotient_line(
     let at = text::decimal(z, b' ', out, at);
     let at = text::decimal(x, b' ', out, at);
     let at = text::decimal(y, b' ', out, at);
-    let at = text::decimal(slopes::number(q), b' ', out, at);
-    text::column(cell(slopes::value(q)), b'\n', out, at)
+    let at = text::decimal(refusals::number(q), b' ', out, at);
+    text::column(q.ok(), b'\n', out, at)
 }

@@ -1,8 +1,9 @@
 -- What `written` prints: the sheet of a note and rows, or why there is none. Definitions only.
-use Rattle.std.specs.Prelude.{ℕ, min, cond, List, eqb, length, take, drop}
+use Rattle.std.specs.Prelude.{ℕ, min, List, length, take, drop, Result, Ok, Err}
 use Rattle.words.specs.Words.{word_of}
-use Rattle.sheet_writer.specs.Write.{number_of, sheet_of, write_of}
-use Rattle.sheet_writer.specs.declared.Writing.{Writing}
+use Rattle.refusals.specs.Refusals.{number_of}
+use Rattle.refusals.specs.declared.Refusal.{Refusal}
+use Rattle.sheet_writer.specs.Write.{sheet_of, write_of}
 use Rattle.row_lines.specs.Lines.{refused_line}
 use Rattle.listing.specs.Listings.{longest}
 
@@ -22,8 +23,9 @@ abbrev pub room_in : List ℕ → ℕ
 room_in s = min (word_of s 1) longest
 
 -- the sheet's bytes, or `refused N`
-unfoldable pub answer_text : List ℕ → List ℕ → Writing → List ℕ
-answer_text note rows w = cond (eqb (number_of w) 0) (sheet_of note rows) (refused_line (number_of w))
+unfoldable pub answer_text : List ℕ → List ℕ → Result ℕ Refusal → List ℕ
+answer_text note rows (Ok n) = sheet_of note rows
+answer_text note rows (Err refusal) = refused_line (number_of refusal)
 
 abbrev pub written_text : List ℕ → List ℕ
 written_text s = answer_text (note_in s) (rows_in s) (write_of (note_in s) (rows_in s) (room_in s))

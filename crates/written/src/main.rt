@@ -18,11 +18,7 @@ const ROOM: usize = listing::LONGEST;
 fn at_most(asked: u64, there: usize) -> usize
     ensures { result ≡ min asked there }
 {
-    if asked < there as u64 {
-        asked as usize
-    } else {
-        there
-    }
+    asked.min(there as u64) as usize
 }
 
 // What stands behind the two words.
@@ -39,11 +35,10 @@ fn answered(note: &[u8], rows: &[u8], most: usize, room: &mut [u8]) -> usize
     requires { (most ≤ longest) × (length room.old ≡ longest) }
     ensures { Whole room.new (answer_text note.now rows.now (write_of note.now rows.now most)) result }
 {
-    let w = sheet_writer::write(note, rows, &mut room[..most]);
-    if w.number() == 0 {
-        return w.length();
+    match sheet_writer::write(note, rows, &mut room[..most]) {
+        Ok(length) => length,
+        Err(refusal) => row_lines::refused(refusal.number(), room),
     }
-    row_lines::refused(w.number(), room)
 }
 
 // Writes what is printed for what is given.

@@ -1,5 +1,5 @@
 -- `written::answered` meets its contract: the sheet, or the line of a refusal, stands whole in the room. Assumes nothing.
-use mathlib.Core.Path.{sym, ap, subst}
+use mathlib.Core.Path.{sym, ap, subst, ◌∙◌}
 use mathlib.Core.List.{List}
 use Prim.Native.Nat.{ℕ}
 use native.Mathlib.Omega.{arith}
@@ -14,25 +14,24 @@ use Rattle.written.proofs.answered.Goals as goal
 pub slice_bounds-write-end-2 : goal.slice_bounds-write-end-2
 slice_bounds-write-end-2 c = sym (length-take-le c.args.most c.args.room.now (omega arith))
 
-pub returns-then-number-eq0 : goal.returns-then-number-eq0
-returns-then-number-eq0 c =
-    answered c.args.note.now c.args.rows.now (take c.args.most c.args.room.now) (drop c.args.most c.args.room.now)
-    (length-take-le c.args.most c.args.room.now (omega arith))
-    c.write-w.ensures.0
-    c.write-w.ensures.1
-    c.number.ensures
-    c.if-number-eq0.true
-    c.length.ensures
+pub returns-in-Ok : goal.returns-in-Ok
+returns-in-Ok c =
+    let a = c.args in
+    answered a.note.now a.rows.now (take a.most a.room.now) (drop a.most a.room.now)
+    (length-take-le a.most a.room.now (omega arith))
+    (sym c.in-Ok.is ∙ c.write.ensures.0)
+    c.write.ensures.1
 
-pub returns : goal.returns
-returns c =
+pub returns-in-Err : goal.returns-in-Err
+returns-in-Err c =
     let most = c.args.most in
     let room = c.args.room.now in
     let note = c.args.note.now in
     let rows = c.args.rows.now in
     let size = length-take-le most room (omega arith) in
-    let kept = room_kept note rows (take most room) c.write-w.ensures.0 c.write-w.ensures.1 c.number.ensures c.if-number-eq0.false in
-    let whole = length-append c.write-w.new.out (drop most room) in
+    let answer = sym c.in-Err.is ∙ c.write.ensures.0 in
+    let kept = room_kept note rows (take most room) answer c.write.ensures.1 in
+    let whole = length-append c.write.new.out (drop most room) in
     subst (λ (t : List ℕ). Whole c.refused.new.out t c.refused.result)
-    (refusal note rows (take most room) size c.write-w.ensures.0 c.number.ensures c.if-number-eq0.false c.number-2.ensures)
-    (uncut c.refused.ensures (omega (arith, refused_short c.number-2.result, whole, ap length kept, size, length-drop most room, c.requires.1)))
+    (refusal note rows (take most room) size answer c.number.ensures)
+    (uncut c.refused.ensures (omega (arith, refused_short c.number.result, whole, ap length kept, size, length-drop most room, c.requires.1)))

@@ -7,36 +7,38 @@ use mathlib.Core.List.{List, []}
 use lib.Dec.{ltb}
 use lib.ListN.{take}
 use borrow.Author.Tests.{lt-ltb, le-ltb}
+use Rattle.std.proofs.Common.{Result, Ok}
 use Rattle.text.proofs.Pieces.{none, said}
+use Rattle.refusals.specs.declared.Refusal.{Refusal}
 use Rattle.sheet.specs.Rows.{row_of}
-use Rattle.sheet.specs.declared.reader.Reading.{Reading}
-use Rattle.sheet.specs.declared.reader.Reading.TheVariants.{Rows}
+use Rattle.sheet.specs.declared.reader.Rows.{Rows}
 use Rattle.sheet.specs.declared.rows.Point.{Point}
 use Rattle.row_lines.specs.Lines.{quotient_lines}
 use Rattle.listing.specs.Listings.{quotients_row}
 use Rattle.listing.proofs.derivatives.quotients.Goals as goal
 
 -- and whether there is such a row
-shown : (s : List ℕ) (r : Reading) (count start k : ℕ) (b : Bool) → r ≡ Rows count start → ltb k count ≡ b
-    → cond b (quotient_lines (k + 1) (row_of s start k) (take start s)) [] ≡ quotients_row s r k
+shown : (s : List ℕ) (r : Result Rows Refusal) (rows : Rows) (k : ℕ) (b : Bool) → r ≡ Ok rows → ltb k rows.count ≡ b
+    → cond b (quotient_lines (k + 1) (row_of s rows.start k) (take rows.start s)) [] ≡ quotients_row s r k
 unfolding quotients_row
-shown s r count start k b e q =
-    ap (λ (t : Bool). cond t (quotient_lines (k + 1) (row_of s start k) (take start s)) []) (sym q) ∙ ap (λ (x : Reading). quotients_row s x k) (sym e)
+shown s r rows k b e q =
+    ap (λ (t : Bool). cond t (quotient_lines (k + 1) (row_of s rows.start k) (take rows.start s)) []) (sym q)
+    ∙ ap (λ (x : Result Rows Refusal). quotients_row s x k) (sym e)
 
-pub returns-in-Refused : goal.returns-in-Refused
+pub returns-in-Err : goal.returns-in-Err
 unfolding quotients_row
-returns-in-Refused c =
+returns-in-Err c =
     let a = c.args in
-    said (ap (λ (x : Reading). quotients_row a.sheet.now x a.k) (sym c.in-Refused.is)) (none _ _)
+    said (ap (λ (x : Result Rows Refusal). quotients_row a.sheet.now x a.k) (sym c.in-Err.is)) (none _ _)
 
-pub returns-then-k-count : goal.returns-then-k-count
-returns-then-k-count c =
+pub returns-then-k-rows : goal.returns-then-k-rows
+returns-then-k-rows c =
     let a = c.args in
     said
     (ap (λ (x : Point). quotient_lines (a.k + 1) x c.note.result.now) c.row.ensures
     ∙ ap (quotient_lines (a.k + 1) _) c.note.ensures
-    ∙ shown _ _ _ _ _ true c.in-Rows.is (lt-ltb _ _ c.if-k-count.true))
+    ∙ shown _ _ _ _ true c.in-Ok.is (lt-ltb _ _ c.if-k-rows.true))
     c.lines.ensures
 
-pub returns-else-k-count : goal.returns-else-k-count
-returns-else-k-count c = said (shown _ _ _ _ _ false c.in-Rows.is (le-ltb _ _ c.if-k-count.false)) (none _ _)
+pub returns-else-k-rows : goal.returns-else-k-rows
+returns-else-k-rows c = said (shown _ _ _ _ false c.in-Ok.is (le-ltb _ _ c.if-k-rows.false)) (none _ _)

@@ -14,7 +14,7 @@ pub loop-k-preserved : goal.loop-k-preserved
 loop-k-preserved c =
     let a = c.args in
     let k = c.loop-k.k in
-    turned (line_at a.listing a.sheet.now a.start) k c.loop-k.invariant (reads c.line-p.ensures (ap (row_line a.listing (k + 1)) c.row.ensures))
+    turned (line_at a.listing a.sheet.now a.rows.start) k c.loop-k.invariant (reads c.line-p.ensures (ap (row_line a.listing (k + 1)) c.row-row.ensures))
 
 pub shape_of-out : goal.shape_of-out
 shape_of-out c = kept c.loop-k.invariant

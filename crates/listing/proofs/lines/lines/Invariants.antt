@@ -6,4 +6,4 @@ use Rattle.listing.specs.Listings.{line_at}
 use Rattle.listing.proofs.lines.lines.Given as goal
 
 abbrev pub invariant-loop-k : goal.invariant-loop-k
-invariant-loop-k l = Written l.initial.out l.at (joined (line_at l.listing l.sheet l.start) l.k) l.out l.p
+invariant-loop-k l = Written l.initial.out l.at (joined (line_at l.listing l.sheet l.fn.rows.start) l.k) l.out l.p

@@ -1,13 +1,10 @@
 -- `row_lines::columns::values` meets its contract: a loop of eight columns, and the ninth. Assumes nothing.
 use mathlib.Core.List.{[], ◌∷◌, ◌++◌}
 use Rattle.text.specs.Texts.{column_of, blank, newline}
-use Rattle.text.specs.declared.Cell.{Cell}
-use Rattle.properties.specs.declared.Value.{Value}
-use Rattle.properties.specs.declared.Value.TheVariants.{Missing}
-use Rattle.cells.specs.Cells.{cell_of}
+use Rattle.std.proofs.Common.{Float, Option, None}
 use Rattle.row_lines.proofs.NineValues.{value_at}
 use Prim.Native.Nat.{ℕ}
-use mathlib.Core.Path.{◌≡◌, ap, ◌∙◌}
+use mathlib.Core.Path.{◌≡◌, ap}
 use native.Mathlib.Omega.{arith}
 use Rattle.text.proofs.Pieces.{then, said, kept}
 use Rattle.row_lines.specs.Lines.{value_column, value_columns}
@@ -15,8 +12,8 @@ use Rattle.text.proofs.Joined.{begun, turned, ended}
 use Rattle.row_lines.proofs.columns.values.Goals as goal
 
 -- the column of a value that is read
-written : (end : ℕ) (x : Cell) (u v : Value) → x ≡ cell_of u → u ≡ v → column_of x ++ end ∷ [] ≡ column_of (cell_of v) ++ end ∷ []
-written end x u v e q = ap (λ (y : Cell). column_of y ++ end ∷ []) (e ∙ ap cell_of q)
+written : (end : ℕ) (u v : Option Float) → u ≡ v → column_of u ++ end ∷ [] ≡ column_of v ++ end ∷ []
+written end u v e = ap (λ (y : Option Float). column_of y ++ end ∷ []) e
 
 pub loop-k-init : goal.loop-k-init
 loop-k-init c = begun _ _ _
@@ -26,7 +23,7 @@ loop-k-preserved c =
     let values = c.values-values in
     let k = c.loop-k.k in
     turned (value_column values.result blank) k c.loop-k.invariant
-    (said (written blank _ _ _ c.cell.ensures (value_at _ c.args.a k _ Missing values.ensures (omega arith))) c.column-p.ensures)
+    (said (written blank _ _ (value_at _ c.args.a k _ None values.ensures (omega arith))) c.column-p.ensures)
 
 pub shape_of-out : goal.shape_of-out
 shape_of-out c =
@@ -38,4 +35,4 @@ returns c =
     let values = c.values-values in
     said (ap value_columns values.ensures)
     (then (ended (value_column values.result blank) c.loop-k.auto.k-end c.loop-k-test.false c.loop-k.invariant)
-    (said (written newline _ _ _ c.cell-2.ensures (value_at _ c.args.a 8 _ Missing values.ensures (omega arith))) c.column.ensures))
+    (said (written newline _ _ (value_at _ c.args.a 8 _ None values.ensures (omega arith))) c.column.ensures))

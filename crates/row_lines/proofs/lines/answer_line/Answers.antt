@@ -5,6 +5,8 @@ use mathlib.Core.List.{[], ◌∷◌, ◌++◌}
 use Rattle.text.proofs.Pieces.{then, said}
 use Rattle.reply.specs.Answers.{values_of}
 use Rattle.reply.specs.declared.Answer.{Answer}
+use Rattle.refusals.specs.declared.Refusal.{Refusal}
+use Rattle.std.proofs.Common.{Result}
 use Rattle.text.specs.Texts.{blank}
 use Rattle.row_lines.specs.Lines.{verdict_of, mark_byte, value_columns, answer_line}
 use Rattle.row_lines.proofs.lines.answer_line.Goals as goal
@@ -14,5 +16,5 @@ unfolding answer_line
 returns c =
     let a = c.args in
     said
-    (ap (λ (x : Answer). verdict_of a.number a.row.kind x blank ++ (mark_byte x ∷ blank ∷ []) ++ value_columns (values_of x)) c.asked-a.ensures)
+    (ap (λ (x : Result Answer Refusal). verdict_of a.number a.row.kind x blank ++ (mark_byte x ∷ blank ∷ []) ++ value_columns (values_of x)) c.asked-a.ensures)
     (then (then c.verdict-at.ensures (said (ap (λ (m : ℕ). m ∷ blank ∷ []) c.mark.ensures) c.bytes-at.ensures)) c.values.ensures)

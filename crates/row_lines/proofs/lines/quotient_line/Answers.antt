@@ -1,26 +1,26 @@
 -- `row_lines::lines::quotient_line` meets its contract: six columns, one behind the other. Assumes nothing.
 use Prim.Native.Nat.{ℕ}
-use mathlib.Core.Path.{◌≡◌, ap, ◌∙◌}
+use mathlib.Core.Path.{◌≡◌, ap}
 use mathlib.Core.List.{List, [], ◌∷◌, ◌++◌}
 use lib.Ieee.{Float}
 use Rattle.text.specs.Texts.{column_of, blank, newline, number_column}
-use Rattle.text.specs.declared.Cell.{Cell}
 use Rattle.text.proofs.Pieces.{then, said}
 use Rattle.sums.specs.Quotients.{quotient_of}
-use Rattle.slopes.specs.declared.Derivative.{Derivative}
-use Rattle.slopes.specs.Answers.{number_of, value_of}
-use Rattle.cells.specs.Cells.{cell_of}
+use Rattle.refusals.specs.Refusals.{number_in}
+use Rattle.refusals.specs.declared.Refusal.{Refusal}
+use Rattle.std.proofs.Common.{Option, Result}
+use Rattle.std.specs.Result.{result_ok}
 use Rattle.row_lines.specs.Lines.{quotient_line}
 use Rattle.row_lines.proofs.lines.quotient_line.Goals as goal
 
 -- the line of a derivative
-abbrev columns : ℕ → ℕ → ℕ → ℕ → Derivative → List ℕ
+abbrev columns : ℕ → ℕ → ℕ → ℕ → Result Float Refusal → List ℕ
 columns number z x y q =
-    number_column number blank ++ number_column z blank ++ number_column x blank ++ number_column y blank ++ number_column (number_of q) blank
-    ++ (column_of (cell_of (value_of q)) ++ newline ∷ [])
+    number_column number blank ++ number_column z blank ++ number_column x blank ++ number_column y blank ++ number_column (number_in q) blank
+    ++ (column_of (result_ok q) ++ newline ∷ [])
 
 -- the derivative at the values that bits stand for
-at_bits : (kind z x y : ℕ) {q : Derivative} {c c' d d' : Float} → q ≡ quotient_of kind c d z x y → c ≡ c' → d ≡ d' → q ≡ quotient_of kind c' d' z x y
+at_bits : (kind z x y : ℕ) {q : Result Float Refusal} {c c' d d' : Float} → q ≡ quotient_of kind c d z x y → c ≡ c' → d ≡ d' → q ≡ quotient_of kind c' d' z x y
 at_bits kind z x y e f g = cc
 
 pub returns : goal.returns
@@ -33,4 +33,4 @@ returns c =
     (then
     (then (then (then c.decimal-at.ensures c.decimal-at-2.ensures) c.decimal-at-3.ensures) c.decimal-at-4.ensures)
     (said (ap (λ (n : ℕ). number_column n blank) c.number.ensures) c.decimal-at-5.ensures))
-    (said (ap (λ (x : Cell). column_of x ++ newline ∷ []) (c.cell.ensures ∙ ap cell_of c.value.ensures)) c.column.ensures))
+    (said (ap (λ (x : Option Float). column_of x ++ newline ∷ []) c.ok.ensures.value) c.column.ensures))

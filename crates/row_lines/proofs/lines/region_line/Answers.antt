@@ -2,6 +2,8 @@
 use mathlib.Core.Path.{ap}
 use Rattle.text.proofs.Pieces.{said}
 use Rattle.reply.specs.declared.Answer.{Answer}
+use Rattle.refusals.specs.declared.Refusal.{Refusal}
+use Rattle.std.proofs.Common.{Result}
 use Rattle.text.specs.Texts.{newline}
 use Rattle.row_lines.specs.Lines.{verdict_of}
 use Rattle.row_lines.proofs.lines.region_line.Goals as goal
@@ -9,4 +11,4 @@ use Rattle.row_lines.proofs.lines.region_line.Goals as goal
 pub returns : goal.returns
 returns c =
     let a = c.args in
-    said (ap (λ (x : Answer). verdict_of a.number a.row.kind x newline) c.asked.ensures) c.verdict.ensures
+    said (ap (λ (x : Result Answer Refusal). verdict_of a.number a.row.kind x newline) c.asked.ensures) c.verdict.ensures
