@@ -33,7 +33,7 @@ if_filled false x h = refl
 
 filled_so : (b x : Bool) → cond b x true ≡ true → b ≡ true → x ≡ true
 filled_so true x e f = e
-filled_so false x e f = absurd (let z : ◌≡◌ {A = ℕ} 0 1 = cc in omega arith)
+filled_so false x e f = absurd cc
 
 module _ (d : Desk) where
   -- ---- the facts make the test true

@@ -1,4 +1,4 @@
--- What owning a desk tells of its lists: 32 rows and 8 counts, and the row that the code reads is the model's. Assumes nothing.
+-- The lists of a desk: the row that the code reads is the model's, and so are the rows that it counts. Assumes nothing.
 use Prim.Native.Nat.{ℕ, zero, suc, ◌+◌, ◌*◌, ◌<◌}
 use mathlib.Core.Path.{◌≡◌, refl, ap, ◌∙◌}
 use mathlib.Core.Bool.{Bool, true, false, cond}
@@ -46,22 +46,20 @@ row_fits i h = omega arith
 pub count_fits : (c : ℕ) → c < 8 → Fits w64 (c * 8)
 count_fits c h = omega arith
 
-module _ (d : Desk) (vs : List Val) (own : Is (owned DeskT.the_type) d vs) where
-  pub rows_long : length d.rows ≡ 32
-  rows_long = own.1.1.0.1.0.1
-
-  pub counts_long : length d.counts ≡ 8
-  counts_long = own.1.1.1.0.1.0.1
-
-  pub row_is : (i : ℕ) (r : Row) → i < 32 → row d i ≡ get_or d.rows i r
+module _ (d : Desk) (long : length d.rows ≡ 32) where
+  pub row_read : (i : ℕ) (r : Row) → i < 32 → row d i ≡ get_or d.rows i r
   unfolding row
-  row_is i r h = any d.rows i blank r (omega (arith, rows_long))
+  row_read i r h = any d.rows i blank r (omega arith)
 
   -- a test of the row that the code reads is one of the model's
   pub read : (f : Row → Bool) (b : Bool) (i : ℕ) (r : Row) → i < 32 → f (get_or d.rows i r) ≡ b → f (row d i) ≡ b
-  read f b i r h e = ap f (row_is i r h) ∙ e
+  read f b i r h e = ap f (row_read i r h) ∙ e
 
   -- how many of the rows pass a test
   pub rows_counted : (f : Row → Bool) → count_by f d.rows ≡ tally f d
   unfolding tally row
-  rows_counted f = counted f d.rows blank ∙ ap (count (λ i. f (get_or d.rows i blank))) rows_long
+  rows_counted f = counted f d.rows blank ∙ ap (count (λ i. f (get_or d.rows i blank))) long
+
+-- an owned desk has 32 rows
+pub row_is : (d : Desk) (vs : List Val) → Is (owned DeskT.the_type) d vs → (i : ℕ) (r : Row) → i < 32 → row d i ≡ get_or d.rows i r
+row_is d vs own = row_read d own.1.1.0.1.0.1

@@ -16,14 +16,14 @@ use Rattle.ledger.proofs.sound.is_sound.Reads as is_sound
 pub blank_row_only : Only 0 blank_row_kinds.ps blank_row_kinds.r blank_row.Post
 blank_row_only κs a x y s t p q = p ∙ sym q
 
-pub places_on_only : Only 0 places_on_kinds.ps places_on_kinds.r places_on.Post
+pub places_on_only : Only 1 places_on_kinds.ps places_on_kinds.r places_on.Post
 places_on_only κs a x y s t p q = p ∙ sym q
 
-pub count_open_only : Only 0 count_open_kinds.ps count_open_kinds.r count_open.Post
+pub count_open_only : Only 1 count_open_kinds.ps count_open_kinds.r count_open.Post
 count_open_only κs a x y s t p q = p ∙ sym q
 
 pub is_nameable_only : Only 0 is_nameable_kinds.ps is_nameable_kinds.r is_nameable.Post
 is_nameable_only κs a x y s t p q = p ∙ sym q
 
-pub is_sound_only : Only 0 is_sound_kinds.ps is_sound_kinds.r is_sound.Post
+pub is_sound_only : Only 1 is_sound_kinds.ps is_sound_kinds.r is_sound.Post
 is_sound_only κs a x y s t p q = p ∙ sym q

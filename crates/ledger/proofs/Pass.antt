@@ -125,7 +125,7 @@ module _ (d : Desk) (i : ℕ) (tickets next : List ℕ) (w : Passed d i tickets 
     so_far = omega arith;
     places = w.places;
     callers = w.callers;
-    each = right_too (λ g. absurd (let z : ◌≡◌ {A = ℕ} 0 1 = cc in omega arith));
+    each = right_too (λ g. absurd cc);
     once = λ e t. rw (count_no _ i (told (held e t) false (held_empty e r t f))) (w.once e t);
     four = λ e m. rw (none e) (w.four e m);
     next_all = λ e m. rw (none e) (w.next_all e m);
@@ -141,8 +141,7 @@ module _ (d : Desk) (i : ℕ) (tickets next : List ℕ) (w : Passed d i tickets 
     wrong_row e = not_some (rows_right d) (λ h.
         let g = is_right d.counts (row d i) ((rows_good d h).each i l (rw same f)) in
         let g' : row_right d.counts r ≡ true = ap (λ (x : Row). row_right d.counts x) (sym same) ∙ g in
-        let z : ◌≡◌ {A = ℕ} 0 1 = cc in
-        absurd (omega arith))
+        absurd cc)
 
     -- so often among the rows passed, and once more
     counted_too : (g : Row → Bool) → g r ≡ true → count (λ k. g (row d k)) i + 1 ≤ count (λ k. g (row d k)) 32

@@ -16,7 +16,7 @@ not_some false h = refl
 
 pub and_true : (a b : Bool) → a && b ≡ true → (a ≡ true) × (b ≡ true)
 and_true true b e = (refl, e)
-and_true false b e = (e, absurd (let z : ◌≡◌ {A = ℕ} 0 1 = cc in omega arith))
+and_true false b e = (e, absurd cc)
 
 pub upto_true : (f : ℕ → Bool) (n : ℕ) → ((i : ℕ) → i < n → f i ≡ true) → upto f n ≡ true
 unfolding upto
@@ -56,7 +56,7 @@ least_is f n k l e h = go (ltb (least f n) k) refl
     go false q = omega (arith, ltb-false (least f n) k q, least_le f n k l e)
     go true q =
         let m = ltb-true (least f n) k q in
-        absurd (let t = least_true f n (omega (arith, least_le f n k l e)) in let u = h (least f n) m in let z : ◌≡◌ {A = ℕ} 0 1 = cc in omega arith)
+        absurd (let t = least_true f n (omega (arith, least_le f n k l e)) in let u = h (least f n) m in cc)
 
 pub least_none : (f : ℕ → Bool) (n : ℕ) → ((i : ℕ) → i < n → f i ≡ false) → least f n ≡ n
 unfolding least
@@ -182,7 +182,7 @@ module _ (f : ℕ → Bool) (k : ℕ) where
   count_no e = omega (arith, ap (λ (n : ℕ). count f n) (add-one k), count_snoc f k, ap bit e)
 
 pub upto_fails : (f : ℕ → Bool) (n i : ℕ) → i < n → f i ≡ false → upto f n ≡ false
-upto_fails f n i l e = not_some (upto f n) (λ h. let g = upto_each f n h i l in let z : ◌≡◌ {A = ℕ} 0 1 = cc in absurd (omega arith))
+upto_fails f n i l e = not_some (upto f n) (λ h. let g = upto_each f n h i l in absurd cc)
 
 pub upto_more : (f : ℕ → Bool) (n : ℕ) → upto f n ≡ true → f n ≡ true → upto f (n + 1) ≡ true
 upto_more f n h e = upto_true f (n + 1) (λ i l. go i l (ℕ_discrete i n))

@@ -138,7 +138,7 @@ module _ (counts : List ℕ) (r : Row) where
 
   -- a number that no post may name
   pub not_named : nameable r.number ≡ false → Right counts r → ⊥
-  not_named n f = let e = sym n ∙ is_named r.number f.number_low f.number_high in absurd (let z : ◌≡◌ {A = ℕ} 0 1 = cc in omega arith)
+  not_named n f = let e = sym n ∙ is_named r.number f.number_low f.number_high in absurd cc
 
   pub not_right : (Right counts r → ⊥) → row_right counts r ≡ false
   not_right h = not_some (row_right counts r) (λ e. h (right_is e))

@@ -39,15 +39,15 @@ impl Want {
 
 // The first row that is looked for at or after the row `from`, round the end: how many places on it
 // lies, if there is one.
-pub fn places_on(d: Desk, w: Want, from: usize) -> Option<usize>
-    ensures { result ≡ found (onward (wants w) d from) }
+pub fn places_on(d: &Desk, w: Want, from: usize) -> Option<usize>
+    ensures { result ≡ found (onward (wants w) d.now from) }
 {
     (0..32).position(|k| w.is_met(d.rows[(from % 32 + k) % 32]))
 }
 
 // How many rows a caller has open.
-pub fn count_open(d: Desk, caller: u64) -> u64
-    ensures { result ≡ tally (of_caller caller) d }
+pub fn count_open(d: &Desk, caller: u64) -> u64
+    ensures { result ≡ tally (of_caller caller) d.now }
 {
     d.rows
         .iter()

@@ -67,18 +67,17 @@ fn noted(tickets: &[u64; 32], caller: usize, t: u64) -> bool
 // noted at c, c + 8, c + 16 and c + 24, and next[c] is the place for one more. A place that is free holds
 // the number of tickets that may be given, which no ticket is: so a caller's first three places can be
 // compared however many are taken; the fourth need not be, since no row may come behind it.
-fn rows_right(d: Desk) -> bool
-    requires { counts_right d.counts ≡ true }
-    ensures { result ≡ rows_right d }
+fn rows_right(d: &Desk) -> bool
+    requires { counts_right d.now.counts ≡ true }
+    ensures { result ≡ rows_right d.now }
 {
-    let counts = d.counts;
     let mut tickets = [TICKETS; 32];
     let mut next = [0usize, 1, 2, 3, 4, 5, 6, 7];
-    for r in d.rows {
+    for r in &d.rows {
         if !r.filled {
             continue;
         }
-        if !row_right(r, &counts) {
+        if !row_right(*r, &d.counts) {
             return false;
         }
         let c = r.caller as usize;
@@ -96,14 +95,13 @@ fn rows_right(d: Desk) -> bool
 }
 
 // Whether a desk is sound.
-pub fn is_sound(d: Desk) -> bool
-    ensures { result ≡ sound d }
+pub fn is_sound(d: &Desk) -> bool
+    ensures { result ≡ sound d.now }
 {
     if 31 < d.pointer {
         return false;
     }
-    let counts = d.counts;
-    if !counts_right(&counts) {
+    if !counts_right(&d.counts) {
         return false;
     }
     rows_right(d)

@@ -108,7 +108,7 @@ tracked_effect c t j done a d e x g o (seated c' k p y number j' w r) = record {
 tracked_effect c t j done a d e x g o (freed y h c' t' w i s) = rw h (record {
   mine = o.mine;
   fits = row_each d i blank d.counts d.pointer (λ k r. held c t r ≡ true → Fits j done a d.pointer k r) g.long s.place
-      (λ q. absurd (let n = held_empty c blank t refl in let z : ◌≡◌ {A = ℕ} 0 1 = cc in omega arith))
+      (λ q. absurd (let n = held_empty c blank t refl in cc))
       (λ k m ne q. o.fits k m q);
 })
 

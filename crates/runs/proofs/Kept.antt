@@ -70,7 +70,7 @@ good_emptied d g i l = good_put d g i blank d.counts d.pointer (record {
   size = g.wide;
   least = g.few;
   grows = λ c m. omega arith;
-  fits = λ e. absurd (let z : ◌≡◌ {A = ℕ} 0 1 = cc in omega arith);
+  fits = λ e. absurd cc;
   one = λ c t. rw (held_empty c blank t refl) (omega (arith, g.rows.once c t));
   four = λ c. rw (of_empty c blank refl) (omega (arith, g.rows.four c));
 }) g.points
@@ -238,7 +238,7 @@ good_new = record {
   points = omega arith;
   few = λ c l. omega (arith, count_new c);
   rows = record {
-    each = λ i l e. absurd (let q = rw (row_new i l) at e in let z : ◌≡◌ {A = ℕ} 0 1 = cc in omega arith);
+    each = λ i l e. absurd (let q = rw (row_new i l) at e in cc);
     once = λ c t. omega (arith, tally_new (held c t) (held_empty c blank t refl));
     four = λ c. omega (arith, tally_new (of_caller c) (of_empty c blank refl));
   };

@@ -75,7 +75,7 @@ pub got : (d : Desk) → Good d → (c k : ℕ) (p y : Float) (number t : ℕ) �
 got d g c k p y number t e = go (ruling_at d c k p y number) refl
   where
     go : (r : Ruling) → ruling_at d c k p y number ≡ r → Got d c k p y number t
-    go (against n) q = absurd (let f = rw (post_ruled d c k p y number (good_sound d g), q) at e in let z : ◌≡◌ {A = ℕ} 0 1 = cc in omega arith)
+    go (against n) q = absurd (let f = rw (post_ruled d c k p y number (good_sound d g), q) at e in cc)
     go (given j) q =
         let f = rw (post_ruled d c k p y number (good_sound d g), q) at e in
         record {
@@ -194,7 +194,7 @@ module _ (d : Desk) (c t : ℕ) where
   peeked n lo hi e = go (open_of d c t) refl e
     where
       go : (o : Result ℕ Refusal) → open_of d c t ≡ o → (peek_at d o).answer ≡ Ok (Shown n lo hi) → Peeked n lo hi
-      go (Err m) q f = absurd (let z : ◌≡◌ {A = ℕ} 0 1 = cc in omega arith)
+      go (Err m) q f = absurd cc
       go (Ok i) q f =
           let a : (row d i).lo ≡ lo = cc in
           let b : (row d i).hi ≡ hi = cc in
@@ -214,14 +214,14 @@ module _ (d : Desk) (c t : ℕ) where
     where
       done : (i : ℕ) → Seat d c t i → (b : Bool) → ltb (row d i).halvings (row d i).number ≡ b
           → (cond b (refuse Refusal.NotReady d) (answers (handed_at d i) (emptied d i))).answer ≡ Ok (State s n lo hi) → Collected s n lo hi
-      done i k true q f = absurd (let z : ◌≡◌ {A = ℕ} 0 1 = cc in omega arith)
+      done i k true q f = absurd cc
       done i k false q f =
           let a : (row d i).lo ≡ lo = cc in
           let b : (row d i).hi ≡ hi = cc in
           record { at = i; seat = k; ready = ltb-false (row d i).halvings (row d i).number q; state = cc; number = cc; bracket = rw (a, b) }
 
       go : (o : Result ℕ Refusal) → open_of d c t ≡ o → (collect_at d o).answer ≡ Ok (State s n lo hi) → Collected s n lo hi
-      go (Err m) q f = absurd (let z : ◌≡◌ {A = ℕ} 0 1 = cc in omega arith)
+      go (Err m) q f = absurd cc
       go (Ok i) q f = done i (open_seat d c t i q) (ltb (row d i).halvings (row d i).number) refl f
 
 -- ---- the promises of one job

@@ -64,7 +64,7 @@ origins_effect c run d e x s g o (seated c' k p y number j w r) =
     }
 origins_effect c run d e x s g o (freed y h c' t' w i k) =
     λ t. row_each d i blank d.counts d.pointer (λ n r. held c t r ≡ true → Origin c t (run ++ x ∷ [])) g.long k.place
-    (λ q. absurd (let n = held_empty c blank t refl in let z : ◌≡◌ {A = ℕ} 0 1 = cc in omega arith))
+    (λ q. absurd (let n = held_empty c blank t refl in cc))
     (λ n m ne q. later c t run x (o t n m q))
 
 pub after_one : (run : List Call) (d : Desk) (x : Call) → after run ≡ d → after (run ++ x ∷ []) ≡ (step d x).desk
@@ -84,7 +84,7 @@ unfolding after_from
 open_posted c t run o = origins c [] run new_desk refl good_new none t o.0 o.1 o.2
   where
     none : Origins c [] new_desk
-    none t i l h = absurd (let q = rw (row_new i l) at h in let n = held_empty c blank t refl in let z : ◌≡◌ {A = ℕ} 0 1 = cc in omega arith)
+    none t i l h = absurd (let q = rw (row_new i l) at h in let n = held_empty c blank t refl in cc)
 
 pub patient_collects : (c : ℕ) (xs : List Call) → c < 8 → Patient c xs → CollectsGive c xs
 patient_collects c xs l w before rest t e o =

@@ -3,7 +3,6 @@
 use mathlib.Core.Path.{◌≡◌, refl, subst}
 use mathlib.Core.Bool.{Bool, true, false, cond, ◌&&◌}
 use Prim.Native.Nat.{ℕ, ◌≤◌, ◌<◌}
-use native.Mathlib.Omega.{arith}
 use lib.Dec.{leb, ltb}
 use lib.Ieee.{Float}
 use borrow.Author.Tests.{ltb-true, leb-true}
@@ -101,10 +100,10 @@ unfolding ruling
 ruling_given c k p y number n m j e = go (known c k number) refl (judged_of k p y) refl (ltb n most) refl (ltb m 4) refl
   where
     go : (b : Bool) → known c k number ≡ b → (q : Result Judged Refusal) → judged_of k p y ≡ q → (u : Bool) → ltb n most ≡ u → (v : Bool) → ltb m 4 ≡ v → Granted c k p y number n m j
-    go false x q w u hu v hv = absurd (let f = rw x at e in let z : ◌≡◌ {A = ℕ} 0 1 = cc in omega arith)
-    go true x (Err o) w u hu v hv = absurd (let f = rw (x, w) at e in let z : ◌≡◌ {A = ℕ} 0 1 = cc in omega arith)
-    go true x (Ok a) w false hu v hv = absurd (let f = rw (x, w, hu) at e in let z : ◌≡◌ {A = ℕ} 0 1 = cc in omega arith)
-    go true x (Ok a) w true hu false hv = absurd (let f = rw (x, w, hu, hv) at e in let z : ◌≡◌ {A = ℕ} 0 1 = cc in omega arith)
+    go false x q w u hu v hv = absurd (let f = rw x at e in cc)
+    go true x (Err o) w u hu v hv = absurd (let f = rw (x, w) at e in cc)
+    go true x (Ok a) w false hu v hv = absurd (let f = rw (x, w, hu) at e in cc)
+    go true x (Ok a) w true hu false hv = absurd (let f = rw (x, w, hu, hv) at e in cc)
     go true x (Ok a) w true hu true hv =
         let f = rw (x, w, hu, hv) at e in
         let same : ◌≡◌ {A = Job} (record { query = asked k a.phase p y; number = number; bracket = record { lo = a.lo; hi = a.hi } }) j = cc in

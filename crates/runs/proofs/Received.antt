@@ -67,7 +67,7 @@ module _ (c t : ℕ) where
   has_effect h d e x g o (freed y q c' t' w i s) = rw q (record {
     mine = o.mine;
     has = row_each d i blank d.counts d.pointer (λ k r. held c t r ≡ true → r.halvings ≡ h + 0) g.long s.place
-        (λ z. absurd (let n = held_empty c blank t refl in let f : ◌≡◌ {A = ℕ} 0 1 = cc in omega arith))
+        (λ z. absurd (let n = held_empty c blank t refl in cc))
         (λ k m ne z. omega (arith, o.has k m z));
   })
 

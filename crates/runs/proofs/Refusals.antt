@@ -4,7 +4,6 @@ use mathlib.Core.Path.{◌≡◌, refl}
 use mathlib.Core.Bool.{Bool, true, false, cond, not, ◌&&◌}
 use mathlib.Core.List.{[], ◌∷◌}
 use Prim.Native.Nat.{ℕ, ◌+◌, ◌%◌}
-use native.Mathlib.Omega.{arith}
 use lib.Dec.{ltb}
 use lib.Ieee.{Float}
 use Rattle.std.specs.Prelude.{Result, Ok, Err}
@@ -73,7 +72,7 @@ keeps d (post c k p y number) n = go (sound d) (known c k number) (judged_of k p
         → (cond u (cond v (answers (Ticket t) e) (refuse Refusal.FourOpen d)) (refuse Refusal.TicketsSpent d)).desk ≡ d
     admits false v t e q = refl
     admits true false t e q = refl
-    admits true true t e q = absurd (let z : ◌≡◌ {A = ℕ} 0 1 = cc in omega arith)
+    admits true true t e q = absurd cc
 
     go : (u v : Bool) (j : Result Judged Refusal) → (cond u (cond v (judged_post d c k p y number j) (refuse Refusal.UnknownNumber d)) (refuse Refusal.UnsoundDesk d)).answer ≡ Err n
         → (cond u (cond v (judged_post d c k p y number j) (refuse Refusal.UnknownNumber d)) (refuse Refusal.UnsoundDesk d)).desk ≡ d
@@ -86,7 +85,7 @@ keeps d turn n = go (sound d) (ltb (next d) 32)
     go : (u v : Bool) → (cond u (cond v (answers Halved (turned_at d ((d.pointer + next d) % 32))) (answers Idle d)) (refuse Refusal.UnsoundDesk d)).answer ≡ Err n
         → (cond u (cond v (answers Halved (turned_at d ((d.pointer + next d) % 32))) (answers Idle d)) (refuse Refusal.UnsoundDesk d)).desk ≡ d
     go false v e = refl
-    go true true e = absurd (let z : ◌≡◌ {A = ℕ} 0 1 = cc in omega arith)
+    go true true e = absurd cc
     go true false e = refl
 keeps d (peek c t) n = go (open_of d c t)
   where
@@ -98,7 +97,7 @@ keeps d (collect c t) n = go (open_of d c t)
     done : (i : ℕ) (b : Bool) (v : Settled) (m : ℕ) (lo hi : Float) → (cond b (refuse Refusal.NotReady d) (answers (State v m lo hi) (emptied d i))).answer ≡ Err n
         → (cond b (refuse Refusal.NotReady d) (answers (State v m lo hi) (emptied d i))).desk ≡ d
     done i true v m lo hi e = refl
-    done i false v m lo hi e = absurd (let z : ◌≡◌ {A = ℕ} 0 1 = cc in omega arith)
+    done i false v m lo hi e = absurd cc
 
     go : (o : Result ℕ Refusal) → (collect_at d o).answer ≡ Err n → (collect_at d o).desk ≡ d
     go (Err m) e = refl
@@ -107,4 +106,4 @@ keeps d (withdraw c t) n = go (open_of d c t)
   where
     go : (o : Result ℕ Refusal) → (withdraw_at d o).answer ≡ Err n → (withdraw_at d o).desk ≡ d
     go (Err m) e = refl
-    go (Ok i) e = absurd (let z : ◌≡◌ {A = ℕ} 0 1 = cc in omega arith)
+    go (Ok i) e = absurd cc

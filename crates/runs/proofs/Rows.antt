@@ -93,4 +93,4 @@ module _ (d : Desk) (g : Good d) (c t i : ℕ) (place : i < 32) (has : held c t 
       go true q =
           row_else d j (halved_row (row d j)) d.counts (past j) i (λ same.
           let h = subst (λ (n : ℕ). held c t (row d n) ≡ true) same has in
-          absurd (let z : ◌≡◌ {A = ℕ} 0 1 = cc in omega arith))
+          absurd cc)

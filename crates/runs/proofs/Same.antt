@@ -109,7 +109,7 @@ like_put c d m j r n p g l o a b h = record {
 }
 
 not_held : (c t : ℕ) (r : Row) → of_caller c r ≡ false → held c t r ≡ false
-not_held c t r q = not_some (held c t r) (λ h. let z = held_of c r t h in let y : ◌≡◌ {A = ℕ} 0 1 = cc in absurd (omega arith))
+not_held c t r q = not_some (held c t r) (λ h. let z = held_of c r t h in absurd cc)
 
 like_effect : (c : ℕ) (d e : Desk) (x : Call) (m : Solo) → Good d → asks c x ≡ false → Like c d m → Effect d x e → Like c e m
 like_effect c d e x m g n o (kept y h) = o
@@ -223,7 +223,7 @@ tracks_dropped : (c t : ℕ) (e : Desk) (m : Solo) → Tracks c e m → Tracks c
 tracks_dropped c t e m h u i q = go (eqb u t) refl q
   where
     go : (b : Bool) → eqb u t ≡ b → cond b none (m.jobs u) ≡ some i → (a : ℕ) × Tracked c u i 0 a e
-    go true n f = absurd (let z : ◌≡◌ {A = ℕ} 0 1 = cc in omega arith)
+    go true n f = absurd cc
     go false n f = h u i f
 
 -- a ticket that is not open, and one that is
@@ -315,8 +315,8 @@ waited c t run rest d e w o =
 own : (c : ℕ) (run rest : List Call) (d : Desk) (m : Solo) (x : Call) → c < 8 → At-end c run d m → Patient c (run ++ x ∷ rest) → asks c x ≡ true → Goes c d m x
 own c run rest d m (post e k p y number) l s w n =
     subst (λ (v : ℕ). Goes c d m (post v k p y number)) (sym (eqb-true e c n)) (own_post c k p y number d m s.good s.like s.tracks)
-own c run rest d m turn l s w n = absurd (let z : ◌≡◌ {A = ℕ} 0 1 = cc in omega arith)
-own c run rest d m (peek e t) l s w n = absurd (let z : ◌≡◌ {A = ℕ} 0 1 = cc in omega arith)
+own c run rest d m turn l s w n = absurd cc
+own c run rest d m (peek e t) l s w n = absurd cc
 own c run rest d m (collect e t) l s w n =
     let q = eqb-true e c n in
     subst (λ (v : ℕ). Goes c d m (collect v t)) (sym q) (own_collect c t d m l s.good s.like s.tracks
@@ -361,7 +361,7 @@ at_start c = record {
     opens = tally_new (of_caller c) (of_empty c blank refl);
     here = λ t. tally_new (held c t) (held_empty c blank t refl);
   };
-  tracks = λ t j e. absurd (let z : ◌≡◌ {A = ℕ} 0 1 = cc in omega arith);
+  tracks = λ t j e. absurd cc;
 }
 
 pub same_answers : (c : ℕ) (xs ys : List Call) → c < 8 → own_calls c xs ≡ own_calls c ys → Patient c xs → Patient c ys → own_part c (history xs) ≡ own_part c (history ys)

@@ -26,9 +26,9 @@ module _ (d : Desk) (c t : ℕ) where
     where
       go : (u v w : Bool) → ltb (lowest (held c t) d) 32 ≡ w
           → cond u (cond v (cond w (Ok (lowest (held c t) d)) (Err Refusal.NotOpen)) (Err Refusal.UnknownNumber)) (Err Refusal.UnsoundDesk) ≡ Ok i → Seat d c t i
-      go false v w q e = absurd (let z : ◌≡◌ {A = ℕ} 0 1 = cc in omega arith)
-      go true false w q e = absurd (let z : ◌≡◌ {A = ℕ} 0 1 = cc in omega arith)
-      go true true false q e = absurd (let z : ◌≡◌ {A = ℕ} 0 1 = cc in omega arith)
+      go false v w q e = absurd cc
+      go true false w q e = absurd cc
+      go true true false q e = absurd cc
       go true true true q e =
           let m = ltb-true (lowest (held c t) d) 32 q in
           let s : lowest (held c t) d ≡ i = cc in

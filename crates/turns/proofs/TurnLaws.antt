@@ -3,11 +3,13 @@ use Prim.Native.Nat.{ℕ, zero, suc, ◌+◌, ◌-◌, ◌≤◌, ◌<◌}
 use mathlib.Core.Path.{◌≡◌, refl, ap, ◌∙◌}
 use native.Mathlib.Omega.{arith}
 use lib.ListN.{replicate}
+use Rattle.std.specs.Prelude.{Result, Ok, Err}
+use Rattle.refusals.specs.declared.Refusal.{Refusal}
 use Rattle.runs.specs.Model.{turn_of}
 use Rattle.runs.specs.Runs as Runs
 use Rattle.ledger.specs.declared.Desk.{Desk}
 use Rattle.runs.specs.declared.Answer.{Answer}
-use Rattle.runs.specs.declared.Answer.TheVariants.{Refused, Ticket, Halved, Idle, Shown, State, Freed}
+use Rattle.runs.specs.declared.Answer.TheVariants.{Ticket, Halved, Idle, Shown, State, Freed}
 use Rattle.turns.specs.declared.Turned.{Turned}
 use Rattle.turns.specs.Turns.{after_turn, turned_once, turns_from}
 
@@ -18,38 +20,38 @@ one_turn zero t h = absurd (omega arith)
 one_turn (suc left) t h = let e : left ≡ suc left - 1 = omega arith in ap (λ (k : ℕ). turns_from k (turned_once t)) e
 
 -- a turn counts at most one
-pub halved_more : (t : Turned) (a : Answer) (d : Desk) → (after_turn t a d).halved ≤ t.halved + 1
+pub halved_more : (t : Turned) (a : Result Answer Refusal) (d : Desk) → (after_turn t a d).halved ≤ t.halved + 1
 unfolding after_turn
-halved_more t (Refused n) d = omega arith
-halved_more t (Ticket n) d = omega arith
-halved_more t Halved d = omega arith
-halved_more t Idle d = omega arith
-halved_more t (Shown n lo hi) d = omega arith
-halved_more t (State s n lo hi) d = omega arith
-halved_more t Freed d = omega arith
+halved_more t (Err n) d = omega arith
+halved_more t (Ok (Ticket n)) d = omega arith
+halved_more t (Ok Halved) d = omega arith
+halved_more t (Ok Idle) d = omega arith
+halved_more t (Ok (Shown n lo hi)) d = omega arith
+halved_more t (Ok (State s n lo hi)) d = omega arith
+halved_more t (Ok Freed) d = omega arith
 
-pub idle_more : (t : Turned) (a : Answer) (d : Desk) → (after_turn t a d).idle ≤ t.idle + 1
+pub idle_more : (t : Turned) (a : Result Answer Refusal) (d : Desk) → (after_turn t a d).idle ≤ t.idle + 1
 unfolding after_turn
-idle_more t (Refused n) d = omega arith
-idle_more t (Ticket n) d = omega arith
-idle_more t Halved d = omega arith
-idle_more t Idle d = omega arith
-idle_more t (Shown n lo hi) d = omega arith
-idle_more t (State s n lo hi) d = omega arith
-idle_more t Freed d = omega arith
+idle_more t (Err n) d = omega arith
+idle_more t (Ok (Ticket n)) d = omega arith
+idle_more t (Ok Halved) d = omega arith
+idle_more t (Ok Idle) d = omega arith
+idle_more t (Ok (Shown n lo hi)) d = omega arith
+idle_more t (Ok (State s n lo hi)) d = omega arith
+idle_more t (Ok Freed) d = omega arith
 
 -- ---- the desk
 
 -- a turn that is counted leaves the desk that it left
-desk_left : (t : Turned) (a : Answer) (d : Desk) → (after_turn t a d).desk ≡ d
+desk_left : (t : Turned) (a : Result Answer Refusal) (d : Desk) → (after_turn t a d).desk ≡ d
 unfolding after_turn
-desk_left t (Refused n) d = refl
-desk_left t (Ticket n) d = refl
-desk_left t Halved d = refl
-desk_left t Idle d = refl
-desk_left t (Shown n lo hi) d = refl
-desk_left t (State s n lo hi) d = refl
-desk_left t Freed d = refl
+desk_left t (Err n) d = refl
+desk_left t (Ok (Ticket n)) d = refl
+desk_left t (Ok Halved) d = refl
+desk_left t (Ok Idle) d = refl
+desk_left t (Ok (Shown n lo hi)) d = refl
+desk_left t (Ok (State s n lo hi)) d = refl
+desk_left t (Ok Freed) d = refl
 
 -- the desk afterwards is the one that so many turns leave in a run of the desk's theorems
 pub turns_desk : (n : ℕ) (t : Turned) → (turns_from n t).desk ≡ Runs.after_from t.desk (replicate n Runs.turn)

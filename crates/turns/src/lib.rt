@@ -4,30 +4,35 @@
 ghost use Rattle.std.specs.Prelude.{◌≡◌, ◌<◌};
 ghost use Rattle.turns.specs.Turns.{after_turn, turns_of};
 
-use desk::{Answer, Desk};
+use desk::{Answer, Desk, Outcome};
+use refusals::Refusal;
 
-// What turns one after the other gave: the refusal or 0, how many halved and how many had nothing to
+// What turns one after the other gave: why one was refused, how many halved and how many had nothing to
 // halve, and the desk afterwards.
 #[derive(Clone, Copy)]
 pub struct Turned {
-    pub refusal: u64,
+    pub refusal: Option<Refusal>,
     pub halved: u64,
     pub idle: u64,
     pub desk: Desk,
 }
 
-// Counts one turn more, which gave this answer and left this desk.
-fn count(t: Turned, a: Answer, d: Desk) -> Turned
+// Counts one turn more.
+fn count(t: Turned, turn: Outcome) -> Turned
     requires { (t.halved < 18446744073709551615) × (t.idle < 18446744073709551615) }
-    ensures { result ≡ after_turn t a d }
+    ensures { result ≡ after_turn t turn.answer turn.desk }
 {
-    let mut s = t;
-    s.desk = d;
-    match a {
-        Answer::Refused(n) => s.refusal = n,
-        Answer::Halved => s.halved = t.halved + 1,
-        Answer::Idle => s.idle = t.idle + 1,
-        _ => {}
+    let mut s = Turned {
+        desk: turn.desk,
+        ..t
+    };
+    match turn.answer {
+        Ok(answer) => match answer {
+            Answer::Halved => s.halved += 1,
+            Answer::Idle => s.idle += 1,
+            _ => {}
+        },
+        Err(refusal) => s.refusal = Some(refusal),
     }
     s
 }
@@ -37,19 +42,13 @@ pub fn turns(d: Desk, n: u64) -> Turned
     ensures { result ≡ turns_of n d }
 {
     let mut t = Turned {
-        refusal: 0,
+        refusal: None,
         halved: 0,
         idle: 0,
         desk: d,
     };
-    let mut left = n;
-    while 0 < left {
-        let e = t.desk;
-        let o = desk::turn(e);
-        let a = o.answer;
-        let f = o.desk;
-        t = count(t, a, f);
-        left -= 1;
+    for _ in 0..n {
+        t = count(t, desk::turn(t.desk));
     }
     t
 }

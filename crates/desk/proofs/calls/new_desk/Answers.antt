@@ -5,4 +5,4 @@ use Rattle.desk.proofs.calls.new_desk.Goals as goal
 
 pub returns : goal.returns
 unfolding new_desk
-returns c = rw c.blank_row-row.ensures refl
+returns c = rw c.blank_row.ensures refl

@@ -13,7 +13,7 @@ returns-then-d-gt31 c = rw (lt-leb _ 31 c.if-d-gt31.true)
 pub returns-then-not-counts_right : goal.returns-then-not-counts_right
 unfolding sound
 returns-then-not-counts_right c =
-    let within : c.args.d.pointer ≤ 31 = omega arith in
+    let within : c.args.d.now.pointer ≤ 31 = omega arith in
     rw (le-leb _ _ within, sym c.counts_right.ensures ∙ c.if-not-counts_right.true)
 
 pub rows_right-requires : goal.rows_right-requires
@@ -22,5 +22,5 @@ rows_right-requires c = sym c.counts_right.ensures ∙ c.if-not-counts_right.fal
 pub returns : goal.returns
 unfolding sound
 returns c =
-    let within : c.args.d.pointer ≤ 31 = omega arith in
+    let within : c.args.d.now.pointer ≤ 31 = omega arith in
     rw (le-leb _ _ within, sym c.counts_right.ensures ∙ c.if-not-counts_right.false) c.rows_right.ensures

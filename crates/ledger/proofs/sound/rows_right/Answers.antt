@@ -1,10 +1,10 @@
 -- `ledger::sound::rows_right` meets its contract: what the pass has noted is what `Passed` says, and each row that comes next is one of its laws. Assumes nothing.
 use native.Mathlib.Omega.{arith}
-use mathlib.Core.Path.{sym, ◌∙◌}
+use lib.ListN.{length}
+use mathlib.Core.Path.{◌≡◌, sym, ◌∙◌}
 use Prim.Native.Nat.{suc-le-suc}
-use borrow.Author.Tests.{not-true, not-false}
 use Rattle.ledger.proofs.Tests.{told_right}
-use Rattle.ledger.proofs.Lists.{count_fits, row_is}
+use Rattle.ledger.proofs.Lists.{count_fits, row_read}
 use Rattle.ledger.proofs.Pass.{bytes_fit, passed_none, passed_empty, passed_filled, passed_all, wrong_row, fifth_row, ticket_again}
 use Rattle.ledger.proofs.sound.rows_right.Goals as goal
 
@@ -14,9 +14,10 @@ loop-r-init c = passed_none _
 pub returns-then-not-row_right : goal.returns-then-not-row_right
 returns-then-not-row_right c =
     let h = c.loop-r-test.true in
-    let same = row_is c.args.d _ c.well_formed.0 c.loop-r.r-index _ h in
+    let long : length c.args.d.now.rows ≡ 32 = omega arith in
+    let same = row_read c.args.d.now long c.loop-r.r-index _ h in
     let wrong = sym c.row_right.ensures ∙ c.if-not-row_right.true in
-    sym (wrong_row c.args.d c.loop-r.r-index c.loop-r.tickets c.loop-r.next c.loop-r.invariant h _ same (not-false _ c.if-not-r.false) wrong)
+    sym (wrong_row c.args.d.now c.loop-r.r-index c.loop-r.tickets c.loop-r.next c.loop-r.invariant h _ same c.if-not-r.false wrong)
 
 pub offset_bounds-next-c : goal.offset_bounds-next-c
 offset_bounds-next-c c = count_fits _ (told_right _ _ _ c.row_right.ensures c.if-not-row_right.false).known
@@ -27,9 +28,10 @@ bounds-next-c c = (told_right _ _ _ c.row_right.ensures c.if-not-row_right.false
 pub returns-then-place-gt31 : goal.returns-then-place-gt31
 returns-then-place-gt31 c =
     let h = c.loop-r-test.true in
-    let same = row_is c.args.d _ c.well_formed.0 c.loop-r.r-index _ h in
+    let long : length c.args.d.now.rows ≡ 32 = omega arith in
+    let same = row_read c.args.d.now long c.loop-r.r-index _ h in
     let known = (told_right _ _ _ c.row_right.ensures c.if-not-row_right.false).known in
-    sym (fifth_row c.args.d c.loop-r.r-index c.loop-r.tickets c.loop-r.next c.loop-r.invariant h _ same (not-false _ c.if-not-r.false) known c.if-place-gt31.true)
+    sym (fifth_row c.args.d.now c.loop-r.r-index c.loop-r.tickets c.loop-r.next c.loop-r.invariant h _ same c.if-not-r.false known c.if-place-gt31.true)
 
 pub noted-requires : goal.noted-requires
 noted-requires c = (told_right _ _ _ c.row_right.ensures c.if-not-row_right.false).known
@@ -37,9 +39,10 @@ noted-requires c = (told_right _ _ _ c.row_right.ensures c.if-not-row_right.fals
 pub returns-then-noted : goal.returns-then-noted
 returns-then-noted c =
     let h = c.loop-r-test.true in
-    let same = row_is c.args.d _ c.well_formed.0 c.loop-r.r-index _ h in
+    let long : length c.args.d.now.rows ≡ 32 = omega arith in
+    let same = row_read c.args.d.now long c.loop-r.r-index _ h in
     let told = told_right _ _ _ c.row_right.ensures c.if-not-row_right.false in
-    sym (ticket_again c.args.d c.loop-r.r-index c.loop-r.tickets c.loop-r.next c.loop-r.invariant h _ same (not-false _ c.if-not-r.false) c.requires told c.if-place-gt31.false _ c.noted.ensures c.if-noted.true)
+    sym (ticket_again c.args.d.now c.loop-r.r-index c.loop-r.tickets c.loop-r.next c.loop-r.invariant h _ same c.if-not-r.false c.requires told c.if-place-gt31.false _ c.noted.ensures c.if-noted.true)
 
 pub offset_bounds-tickets-place : goal.offset_bounds-tickets-place
 offset_bounds-tickets-place c = bytes_fit _ c.if-place-gt31.false
@@ -61,15 +64,17 @@ bounds-next-c-in-loop-r c =
 pub loop-r-preserved : goal.loop-r-preserved
 loop-r-preserved c =
     let h = c.loop-r-test.true in
-    let same = row_is c.args.d _ c.well_formed.0 c.loop-r.r-index _ h in
+    let long : length c.args.d.now.rows ≡ 32 = omega arith in
+    let same = row_read c.args.d.now long c.loop-r.r-index _ h in
     let told = told_right _ _ _ c.row_right.ensures c.if-not-row_right.false in
-    passed_filled c.args.d c.loop-r.r-index c.loop-r.tickets c.loop-r.next c.loop-r.invariant h _ same (not-false _ c.if-not-r.false) c.requires told c.if-place-gt31.false _ c.noted.ensures c.if-noted.false
+    passed_filled c.args.d.now c.loop-r.r-index c.loop-r.tickets c.loop-r.next c.loop-r.invariant h _ same c.if-not-r.false c.requires told c.if-place-gt31.false _ c.noted.ensures c.if-noted.false
 
 pub loop-r-preserved-then-not-r : goal.loop-r-preserved-then-not-r
 loop-r-preserved-then-not-r c =
     let h = c.loop-r-test.true in
-    let same = row_is c.args.d _ c.well_formed.0 c.loop-r.r-index _ h in
-    passed_empty c.args.d c.loop-r.r-index c.loop-r.tickets c.loop-r.next c.loop-r.invariant h _ same (not-true _ c.if-not-r.true)
+    let long : length c.args.d.now.rows ≡ 32 = omega arith in
+    let same = row_read c.args.d.now long c.loop-r.r-index _ h in
+    passed_empty c.args.d.now c.loop-r.r-index c.loop-r.tickets c.loop-r.next c.loop-r.invariant h _ same c.if-not-r.true
 
 pub returns : goal.returns
 returns c = sym (passed_all _ _ _ _ c.loop-r.invariant c.loop-r-test.false)

@@ -3,4 +3,4 @@ use Rattle.ledger.proofs.Pass.{Passed}
 use Rattle.ledger.proofs.sound.rows_right.Given as goal
 
 abbrev pub invariant-loop-r : goal.invariant-loop-r
-invariant-loop-r l = Passed l.fn.d l.r-index l.tickets l.next
+invariant-loop-r l = Passed l.d l.r-index l.tickets l.next
