@@ -7,7 +7,8 @@ use Rattle.subregions.specs.Subregions.{by_hs}
 use Rattle.subregions.specs.declared.subregion.Subregion.{Subregion}
 use Rattle.subregions.specs.declared.subregion.Subregion.TheVariants.{A, B, C}
 use Rattle.sheet_writer.specs.Write.{sheet_of}
-use Rattle.reply.specs.Answers.{number_of, region_of}
+use Rattle.refusals.specs.Refusals.{number_in}
+use Rattle.reply.specs.Answers.{region_of}
 use Rattle.sums.specs.Queries.{answer_pt}
 
 -- the answer to p in MPa and T in K; the subregion of 2 of h in kJ/kg and s in kJ/(kg K); the sheet of a note and rows
@@ -23,7 +24,7 @@ pub data Reading : Type 0 where
   bytes : List ℕ → Reading
 
 unfoldable pub reading_of : Question → Reading
-reading_of (state p t) = answer (number_of (answer_pt p t)) (region_of (answer_pt p t))
+reading_of (state p t) = answer (number_in (answer_pt p t)) (region_of (answer_pt p t))
 reading_of (subregion h s) = lies (by_hs h s)
 reading_of (sheet note rows) = bytes (sheet_of note rows)
 

@@ -8,7 +8,7 @@ use lib.Dec.{eqb, leb}
 use lib.Ieee.{Float}
 use borrow.Author.Tests.{ne_eqb}
 use Rattle.std.specs.Prelude.{Result, Ok, Err}
-use Rattle.std.specs.Result.{result_or, is_err}
+use Rattle.std.specs.Result.{result_or}
 use Rattle.refusals.specs.declared.Refusal.{Refusal}
 use Rattle.workings.specs.declared.Given.{Given}
 use Rattle.workings.specs.declared.Given.TheVariants.{Enthalpy, Entropy}
@@ -23,7 +23,6 @@ use Rattle.saturation_line.specs.Printed.{ts_of}
 use Rattle.equations.specs.Equations.{equation_of}
 use Rattle.equations.specs.declared.Phase.{Phase}
 use Rattle.states.specs.Mixing.{wet_of}
-use Rattle.states.specs.declared.Full.{Full}
 use Rattle.states.specs.declared.Single.{Single}
 use Rattle.sums.proofs.Forward.{ForwardState}
 use Rattle.sums.proofs.Forward.ForwardState.{state, none}
@@ -45,14 +44,6 @@ shown_same none = refl
 pub first_same : (a b : Result Single Refusal) → full_in (result_or a b) ≡ result_or (full_in a) (full_in b)
 first_same (Ok a) b = refl
 first_same (Err refusal) b = refl
-
-pub first_kept : (a other : Result Full Refusal) → is_err a ≡ false → a ≡ result_or a other
-first_kept (Ok a) other kept = refl
-first_kept (Err refusal) other kept = cc
-
-pub first_taken : (a other : Result Full Refusal) → is_err a ≡ true → other ≡ result_or a other
-first_taken (Ok a) other lost = cc
-first_taken (Err refusal) other lost = refl
 
 -- ---- the quotient
 

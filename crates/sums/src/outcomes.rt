@@ -71,8 +71,9 @@ pub(crate) fn of_hs(h: f64, s: f64) -> Result<Full, Refusal>
         return Err(Refusal::NotFinite);
     }
     let mut found = candidate(Phase::Liquid, h, s);
-    if found.is_err() {
-        found = candidate(Phase::Vapour, h, s);
+    match found {
+        Err(_) => found = candidate(Phase::Vapour, h, s),
+        Ok(_) => {}
     }
     found
 }

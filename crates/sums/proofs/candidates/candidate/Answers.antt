@@ -5,7 +5,7 @@ use mathlib.Core.Bool.{true, false, cond}
 use lib.Ieee.{Float, le, round, of_bits}
 use Rattle.std.proofs.Common.{arith}
 use Rattle.std.proofs.lemmas.Grind.{common_steps}
-use Rattle.std.specs.Prelude.{Ok, Err}
+use Rattle.std.specs.Prelude.{Err}
 use Rattle.arith.specs.Printed.{printed}
 use Rattle.equations.specs.declared.Phase.{Phase}
 use Rattle.places.specs.Places.{p_triple}

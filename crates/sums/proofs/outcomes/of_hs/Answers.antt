@@ -1,30 +1,31 @@
 -- `sums::outcomes::of_hs` meets its contract: the second candidate is asked only where the first was refused. Assumes nothing.
-use mathlib.Core.Path.{sym, ◌∙◌}
+use mathlib.Core.Path.{refl}
 use Rattle.sums.specs.Queries.{state_hs}
-use Rattle.sums.proofs.Carried.{first_same, first_kept, first_taken}
+use Rattle.sums.proofs.Carried.{first_same}
 use Rattle.sums.proofs.outcomes.of_hs.Goals as goal
 
 pub returns-then-wild : goal.returns-then-wild
 unfolding state_hs
 returns-then-wild c = rw (← c.wild.ensures, c.if-wild.true)
 
-pub returns-then-is_err : goal.returns-then-is_err
+pub returns-in-Err : goal.returns-in-Err
 unfolding state_hs
-returns-then-is_err c =
+returns-in-Err c =
     rw (
       ← c.wild.ensures,
       c.if-wild.false,
       first_same,
       ← c.candidate-found.ensures,
-      ← c.candidate-found-then-is_err.ensures,
-    ) (first_taken _ _ (sym c.is_err.ensures.value ∙ c.if-is_err.true))
+      c.in-Err.is,
+    ) c.candidate-found-in-Err.ensures
 
-pub returns-else-is_err : goal.returns-else-is_err
+pub returns-in-Ok : goal.returns-in-Ok
 unfolding state_hs
-returns-else-is_err c =
+returns-in-Ok c =
     rw (
       ← c.wild.ensures,
       c.if-wild.false,
       first_same,
       ← c.candidate-found.ensures,
-    ) (first_kept _ _ (sym c.is_err.ensures.value ∙ c.if-is_err.false))
+      c.in-Ok.is,
+    ) refl
