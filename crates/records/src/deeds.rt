@@ -6,6 +6,7 @@ use crate::desks::rows_known;
 use crate::{Call, Deed};
 
 // A call that names a ticket: 3 peek, 4 collect, 5 withdraw.
+#[tactic(auto, unfolding(crate::specs::Records::called))]
 fn by_ticket(op: u64, caller: u64, ticket: u64) -> Option<Deed>
     ensures { result ≡ called op caller ticket }
 {
@@ -22,6 +23,7 @@ fn by_ticket(op: u64, caller: u64, ticket: u64) -> Option<Deed>
 }
 
 // A record with no desk behind it: 1 post, 2 turns, 7 show, or a call that names a ticket.
+#[tactic(auto, unfolding(crate::specs::Records::plain_of))]
 fn plain(op: u64, caller: u64, a: u64, b: u64, c: u64, d: u64) -> Option<Deed>
     ensures { result ≡ plain_of op caller a b c d }
 {
@@ -48,6 +50,7 @@ fn plain(op: u64, caller: u64, a: u64, b: u64, c: u64, d: u64) -> Option<Deed>
 
 // What the record at the front of the bytes that are left asks for: nothing where it is cut short, or
 // where the rules know nothing of it.
+#[tactic(auto, unfolding(crate::specs::Records::deed_of))]
 pub fn read(rest: &[u8]) -> Option<Deed>
     ensures { result ≡ deed_of rest.now }
 {

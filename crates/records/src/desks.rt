@@ -29,6 +29,7 @@ pub(crate) fn rows_known(rest: &[u8]) -> bool
 }
 
 // Row i of the desk.
+#[tactic(auto, unfolding(crate::specs::Records::row_in))]
 fn row_in(rest: &[u8], i: usize) -> Row
     requires { i < 32 }
     ensures { result ≡ row_in rest.now i }
@@ -73,6 +74,7 @@ fn counts_in(rest: &[u8]) -> [u64; 8]
 }
 
 // The desk behind a record.
+#[tactic(auto, unfolding(crate::specs::Records::desk_in))]
 pub fn desk_in(rest: &[u8]) -> Desk
     ensures { result ≡ desk_in rest.now }
 {

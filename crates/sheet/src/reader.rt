@@ -58,6 +58,7 @@ fn judge(t: usize, count: usize, back: usize, version: u64, last: u64) -> Result
 }
 
 // What a sheet's length and trailer say, with no look at its rows.
+#[tactic(auto, unfolding(crate::specs::Read::trailer_of))]
 fn trailer(s: &[u8]) -> Result<Rows, Refusal>
     ensures { result ≡ trailer_of s.now }
 {

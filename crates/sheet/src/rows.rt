@@ -13,6 +13,7 @@ pub struct Point {
 }
 
 // Whether a kind is one of the four.
+#[tactic(auto, unfolding(crate::specs::Rows::kind_known))]
 fn kind_known(kind: u64) -> bool
     ensures { result ≡ kind_known kind }
 {
@@ -34,6 +35,7 @@ pub fn kinds_known(rows: &[u8], n: usize) -> bool
 
 // Row k, counted from 0, of the rows that start at a place of s. Where s does not hold that row, it
 // is answered as zeros, which are no kind.
+#[tactic(auto, unfolding(crate::specs::Rows::row_of))]
 pub fn row(s: &[u8], start: usize, k: usize) -> Point
     ensures { result ≡ row_of s.now start k }
 {

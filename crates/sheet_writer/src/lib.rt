@@ -26,6 +26,7 @@ fn u32_bytes(x: u64) -> [u8; 4]
 }
 
 // What is answered for a note, rows' bytes and a room of so many bytes.
+#[tactic(auto, unfolding(crate::specs::Write::write_of))]
 fn judge(note: &[u8], rows: &[u8], room: usize) -> Result<usize, Refusal>
     ensures { result ≡ write_of note.now rows.now room }
 {

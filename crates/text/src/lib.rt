@@ -42,6 +42,7 @@ pub fn decimal(n: u64, end: u8, out: &mut [u8], at: usize) -> usize
 }
 
 // A hexadecimal digit, 0 to 9 and a to f.
+#[tactic(auto, unfolding(crate::specs::Texts::hex_digit))]
 fn hex_digit(d: u64) -> u8
     requires { d < 16 }
     ensures { result ≡ hex_digit d }
@@ -82,8 +83,8 @@ pub fn column(c: Option<f64>, end: u8, out: &mut [u8], at: usize) -> usize
     let Some(x) = c else {
         return bytes(&[b'-', end], out, at);
     };
-    if x != x {
+    if x.is_nan() {
         return bytes(&[b'n', b'a', b'n', end], out, at);
     }
-    hex(f64::to_bits(x), end, out, at)
+    hex(x.to_bits(), end, out, at)
 }

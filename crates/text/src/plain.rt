@@ -76,7 +76,7 @@ pub fn fixed(x: f64, places: usize, end: u8, out: &mut [u8], at: usize) -> usize
         return super::column(Some(x), end, out, at);
     }
     let k = places.min(3);
-    let bits = f64::to_bits(x);
+    let bits = x.to_bits();
     let n = scaled(bits, power_of_ten(k));
     let front = sign(bits, out, at);
     pointed(n, k, end, out, front)

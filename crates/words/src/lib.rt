@@ -34,6 +34,7 @@ pub fn u64_at(s: &[u8], i: usize) -> u64
 }
 
 // Number k, counted from 0, of a slice of u64s. Where the slice does not hold the whole of it, 0.
+#[tactic(auto, unfolding(crate::specs::Words::word_of))]
 pub fn word(s: &[u8], k: usize) -> u64
     ensures { result ≡ word_of s.now k }
 {

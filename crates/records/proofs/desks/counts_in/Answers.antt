@@ -2,7 +2,7 @@
 use mathlib.Core.Path.{refl}
 use native.Mathlib.Omega.{arith}
 use Rattle.records.specs.Records.{count_in}
-use Rattle.records.proofs.Filled.{begun, stored, whole}
+use Rattle.records.proofs.Filled.{begun, stored}
 use Rattle.records.proofs.desks.counts_in.Goals as goal
 
 pub loop-c-init : goal.loop-c-init
@@ -11,6 +11,3 @@ loop-c-init c = begun _ 8 _ refl
 pub loop-c-preserved : goal.loop-c-preserved
 loop-c-preserved c =
     stored (count_in c.args.rest.now) 8 c.loop-c.c _ _ c.loop-c-test.true c.word.ensures c.loop-c.invariant
-
-pub returns : goal.returns
-returns c = let l = c.loop-c in whole _ 8 _ _ (omega arith) (omega arith) l.invariant

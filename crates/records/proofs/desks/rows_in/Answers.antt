@@ -2,7 +2,7 @@
 use mathlib.Core.Path.{refl}
 use native.Mathlib.Omega.{arith}
 use Rattle.records.specs.Records.{row_in}
-use Rattle.records.proofs.Filled.{begun, stored, whole}
+use Rattle.records.proofs.Filled.{begun, stored}
 use Rattle.records.proofs.desks.rows_in.Goals as goal
 
 pub loop-i-init : goal.loop-i-init
@@ -11,6 +11,3 @@ loop-i-init c = begun _ 32 _ refl
 pub loop-i-preserved : goal.loop-i-preserved
 loop-i-preserved c =
     stored (row_in c.args.rest.now) 32 c.loop-i.i _ _ c.loop-i-test.true c.row_in-r.ensures c.loop-i.invariant
-
-pub returns : goal.returns
-returns c = let l = c.loop-i in whole _ 32 _ _ (omega arith) (omega arith) l.invariant

@@ -1,6 +1,5 @@
 -- `sheet::rows::kinds_known` meets its contract. The invariant: the rows passed have known kinds, so they start in the slice. Assumes nothing.
-use Prim.Native.Nat.{ℕ}
-use mathlib.Core.Path.{◌≡◌, refl, sym, ap, ◌∙◌}
+use mathlib.Core.Path.{refl, sym, ap, ◌∙◌}
 use native.Mathlib.Omega.{arith}
 use Rattle.sheet.specs.Rows.{kind_known, kinds_known}
 use Rattle.sheet.proofs.RowLaws.{kinds_held, kinds_next, kinds_bad}
@@ -23,8 +22,3 @@ returns-then-not-kind_known c =
 pub loop-k-preserved : goal.loop-k-preserved
 loop-k-preserved c =
     kinds_next c.loop-k.k _ c.loop-k.invariant (sym (c.kind_known.ensures ∙ ap kind_known c.u64_at.ensures) ∙ c.if-not-kind_known.false)
-
-pub returns : goal.returns
-returns c =
-    let all : c.loop-k.k ≡ c.args.n = omega arith in
-    sym c.loop-k.invariant ∙ ap (λ (k : ℕ). kinds_known k c.args.rows.now) all
