@@ -12,22 +12,26 @@ pub struct Bracket {
     pub hi: f64,
 }
 
-// The middle of a bracket.
-pub fn middle(lo: f64, hi: f64) -> f64
-    ensures { result ≡ middle_of lo hi }
-{
-    (lo + hi) / 2.0
-}
+impl Bracket {
+    // Its middle.
+    #[tactic(auto, using(arith::proofs::Literals::two_is))]
+    pub fn middle(self) -> f64
+        ensures { result ≡ middle_of self.lo self.hi }
+    {
+        (self.lo + self.hi) / 2.0
+    }
 
-// One halving: the middle becomes the lower end where the value there is below the one asked, and the
-// upper end otherwise.
-pub fn half(lo: f64, hi: f64, below: bool) -> Bracket
-    ensures { result ≡ half_of lo hi below }
-{
-    let mid = middle(lo, hi);
-    if below {
-        Bracket { lo: mid, hi }
-    } else {
-        Bracket { lo, hi: mid }
+    // One halving: the middle becomes the lower end where the value there is below the one asked, and the
+    // upper end otherwise.
+    #[tactic(auto, unfolding(crate::specs::Brackets::half_of))]
+    pub fn half(self, below: bool) -> Bracket
+        ensures { result ≡ half_of self.lo self.hi below }
+    {
+        let mid = self.middle();
+        if below {
+            Bracket { lo: mid, ..self }
+        } else {
+            Bracket { hi: mid, ..self }
+        }
     }
 }

@@ -1,5 +1,5 @@
--- The root that the language has, `sqrt` at binary64, is `root_of`. It takes a root of the number times 4^1734 to a whole number T, twice the whole part and one
--- more where it goes on, and rounds T; the definition scales the number to a whole one and takes the nearest. Assumes nothing.
+-- The root that the language has, `sqrt` at binary64, is `root_of`. It takes the root of x · 4^2271 to a whole number T, twice its whole part and one more where
+-- the root goes on, and rounds T / 2^2272; the definition scales x to a whole number and takes the nearest to its root. Assumes nothing.
 use Rattle.std.proofs.Common.{◌≡◌, ℕ, zero, suc, ◌+◌, ◌-◌, ◌*◌, ◌/◌, ◌%◌, ◌^◌, ◌<◌, ◌≤◌, Bool, true, false, cond, not, ◌&&◌, T, eqb, ltb, leb, ℤ, pos, negsuc, sym, refl, ap, ◌∙◌, subst, le_trans, le_of_eq, lt_of_lt_of_le, lt_of_le_of_lt, mul-le-mul_right, mul_assoc, mul_comm, add-mul, lt_of_mul-lt-mul_right, mul-lt-mul_of_pos_right, mul-pos, lt_of_not-le, not-le_of_lt, mul_right_comm, mul-one, mul-div_cancel, arith, leb→le, pow_pos, pow_mono, pow-add, pow-suc, shl_lt, ne_eqb, le_of_suc-le-suc}
 use Prim.Native.Nat.{compare, Ordering}
 use native.Mathlib.Nat.{zero-lt-suc, mul-mul-mul_comm, div-add-mod', le-div_iff_mul-le, div-lt_iff_lt-mul}
