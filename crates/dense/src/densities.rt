@@ -3,7 +3,7 @@ ghost use Rattle.std.specs.Prelude.{◌≡◌};
 ghost use Rattle.dense.specs.Density.{reaches3, first3, halved3, density3};
 
 use crate::Region3;
-use brackets::{Bracket, half, middle};
+use brackets::Bracket;
 use saturation_line::{SaturationPressure, ps};
 
 // The least and the greatest density in kg/m³ that are sought.
@@ -53,7 +53,7 @@ fn first_bracket(p: f64, t: f64) -> Bracket
 fn halved(p: f64, t: f64, b: Bracket) -> Bracket
     ensures { result ≡ halved3 p t b }
 {
-    half(b.lo, b.hi, Region3::pressure(middle(b.lo, b.hi), t) < p)
+    b.half(Region3::pressure(b.middle(), t) < p)
 }
 
 // The density in kg/m³ at p in MPa and T in K: the middle of the last bracket.
@@ -64,5 +64,5 @@ pub fn density(p: f64, t: f64) -> f64
     for _ in 0..HALVINGS {
         b = halved(p, t, b);
     }
-    middle(b.lo, b.hi)
+    b.middle()
 }

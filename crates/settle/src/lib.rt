@@ -8,7 +8,7 @@ mod naming;
 ghost use Rattle.std.specs.Prelude.{◌≡◌, cond, Some, None};
 ghost use Rattle.settle.specs.Settle.{posted_of, given_of, bracket_of, judged_of, halved_of, settled_of};
 
-use brackets::{Bracket, half, middle};
+use brackets::Bracket;
 use equations::{Phase, equation_of};
 pub use naming::{phase, region};
 use places::{Side, place_py};
@@ -87,14 +87,16 @@ pub fn judge(kind: u64, p: f64, y: f64) -> Result<Judged, Refusal>
 pub fn halve(kind: u64, phase: Phase, p: f64, y: f64, lo: f64, hi: f64) -> Bracket
     ensures { result ≡ halved_of kind phase p y lo hi }
 {
-    let below = workings::property(given(kind), phase, p, middle(lo, hi)) < y;
-    half(lo, hi, below)
+    let b = Bracket { lo, hi };
+    let below = workings::property(given(kind), phase, p, b.middle()) < y;
+    b.half(below)
 }
 
 // The state at the middle of the bracket, with its mark.
 pub fn settled_at(kind: u64, phase: Phase, p: f64, y: f64, lo: f64, hi: f64) -> Settled
     ensures { result ≡ settled_of kind phase p y lo hi }
 {
-    let single = states::marked(given(kind), equation_of(phase), p, y, middle(lo, hi));
+    let b = Bracket { lo, hi };
+    let single = states::marked(given(kind), equation_of(phase), p, y, b.middle());
     Settled { single }
 }
