@@ -2,10 +2,9 @@
 use Prim.Native.Nat.{ℕ, ◌+◌, ◌<◌, ◌≤◌}
 use mathlib.Core.Path.{◌≡◌, refl, sym, ap, ◌∙◌}
 use mathlib.Core.List.{List, [], ◌∷◌, ◌++◌}
-use native.Mathlib.Nat.{le_antisymm}
 use native.Mathlib.Numerals.{add-one}
 use lib.ListN.{length, take, set, length-set}
-use lib.Seq.{take-suc-set, take-length}
+use lib.Seq.{take-suc-set}
 use Rattle.records.specs.Records.{made}
 
 -- the first i elements of a list of n are those that f makes
@@ -30,9 +29,3 @@ stored {A} f n i l x h e t = record {
       ∙ ap (λ (y : A). made f i ++ y ∷ []) e
       ∙ ap (made f) (sym (add-one i));
 }
-
--- behind it
-pub whole : {A : Type 0} (f : ℕ → A) (n i : ℕ) (l : List A) → i ≤ n → n ≤ i → Filled f n i l → l ≡ made f n
-whole f n i l a b t =
-    let e : i ≡ n = le_antisymm a b in
-    sym (take-length l) ∙ ap (λ (k : ℕ). take k l) (t.long ∙ sym e) ∙ t.front ∙ ap (made f) e

@@ -30,9 +30,6 @@ loop-left-preserved c =
       simp length-set l.invariant.4,
     )
 
-pub slice_bounds-bytes-end : goal.slice_bounds-bytes-end
-slice_bounds-bytes-end c = simp length-set (omega arith)
-
 pub returns : goal.returns
 returns c =
     let l = c.loop-left in

@@ -2,18 +2,12 @@
 -- one digit over). At the end none is left. Assumes nothing.
 use Prim.Native.Nat.{ℕ, ◌+◌, ◌-◌, ◌/◌}
 use mathlib.Core.Path.{◌≡◌, ap, ◌∙◌}
-use mathlib.Core.List.{◌++◌, append-nil}
+use mathlib.Core.List.{◌++◌}
 use native.Mathlib.Omega.{arith}
-use lib.ListN.{length, drop, set, drop_of_length-le}
+use lib.ListN.{drop, set}
 use Rattle.text.specs.Texts.{digits_in}
 use Rattle.text.proofs.Digits.{digits_next}
 use Rattle.text.proofs.fill_digits.Goals as goal
-
-pub loop-i-init : goal.loop-i-init
-loop-i-init c =
-    let a = c.args in
-    let all = digits_in a.base (length a.text.now) a.n in
-    ap (λ (l : _). all ++ l) (drop_of_length-le a.text.now {i = length a.text.now} (omega arith)) ∙ append-nil all
 
 pub loop-i-preserved : goal.loop-i-preserved
 loop-i-preserved c =

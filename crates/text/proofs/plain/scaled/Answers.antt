@@ -1,10 +1,8 @@
 -- `text::plain::scaled` meets its contract: the bits' fields give x as digits / unit (`bits_high`), or so small that 0 is nearest (`bits_low`).
 -- Assumes nothing.
-use mathlib.Core.Path.{◌≡◌, sym, ap, ◌∙◌, subst}
-use Prim.Native.Nat.{ℕ, ◌+◌, ◌-◌, ◌*◌, ◌/◌, ◌%◌, ◌^◌, ◌≤◌, ◌<◌}
-use native.Mathlib.Nat.{mul-le-mul_left}
+use mathlib.Core.Path.{◌≡◌, sym, ap, ◌∙◌}
+use Prim.Native.Nat.{ℕ, ◌+◌, ◌-◌, ◌*◌, ◌/◌, ◌%◌, ◌^◌, ◌<◌}
 use native.Mathlib.Omega.{arith}
-use lib.Pow.{pow_pos}
 use Rattle.text.specs.Decimals.{nearest_of}
 use Rattle.text.proofs.Rounding.{halved, bits_high, bits_low, shifted}
 use Rattle.text.proofs.plain.scaled.Goals as goal
@@ -15,27 +13,6 @@ worked d s j h = ap (λ (u : ℕ). (d * s + u / 2) / u) (shifted j h) ∙ halved
 
 pub returns-then-exponent-lt1012 : goal.returns-then-exponent-lt1012
 returns-then-exponent-lt1012 c = sym (bits_low c.args.bits c.args.scale c.if-exponent-lt1012.true (omega arith))
-
-pub overflow_mul-result : goal.overflow_mul-result
-overflow_mul-result c =
-    let a = c.args in
-    let d = 2 ^ 52 + a.bits % 2 ^ 52 in
-    let h : d * a.scale ≤ d * 1000 = mul-le-mul_left d (omega arith) in
-    record { fits = omega arith }
-
-pub overflow_add-result : goal.overflow_add-result
-overflow_add-result c =
-    let a = c.args in
-    let d = 2 ^ 52 + a.bits % 2 ^ 52 in
-    let j = 1075 - a.bits % 2 ^ 63 / 2 ^ 52 in
-    let h : d * a.scale ≤ d * 1000 = mul-le-mul_left d (omega arith) in
-    let u : (1 * 2 ^ j) % 2 ^ 64 / 2 < 2 ^ 63 = omega arith in
-    record { fits = omega arith }
-
-pub nonzero_div-result-2 : goal.nonzero_div-result-2
-nonzero_div-result-2 c =
-    let j = 1075 - c.args.bits % 2 ^ 63 / 2 ^ 52 in
-    subst (λ (u : ℕ). 0 < u) (sym (shifted j (omega arith))) (pow_pos j)
 
 pub returns : goal.returns
 returns c =
