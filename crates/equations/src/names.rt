@@ -4,7 +4,7 @@ ghost use Rattle.equations.specs.Equations.{region_of, is_of, equation_of};
 
 use crate::{Equation, Phase};
 
-// The number of an equation's region.
+// The number of an equation's region. Not a From: u64::from would not say which of its numbers it is.
 pub fn region_of(equation: Equation) -> u64
     ensures { result ≡ region_of equation }
 {
@@ -23,7 +23,7 @@ pub fn is_of(equation: Equation, phase: Phase) -> bool
     equation == equation_of(phase)
 }
 
-// The equation of a phase.
+// The equation of a phase. Not a From: a phase is no equation, it is worked by one.
 pub fn equation_of(phase: Phase) -> Equation
     ensures { result ≡ equation_of phase }
 {

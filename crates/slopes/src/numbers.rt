@@ -45,6 +45,7 @@ fn known(n: u64) -> bool
 }
 
 // Whether z, x and y are.
+#[tactic(auto, unfolding(crate::specs::Slopes::all_known))]
 pub fn all_known(z: u64, x: u64, y: u64) -> bool
     ensures { result ≡ all_known z x y }
 {
