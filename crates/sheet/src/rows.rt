@@ -5,6 +5,7 @@ ghost use Rattle.sheet.specs.Rows.{kind_known, kinds_known, row_of};
 use words::u64_at;
 
 // A row: the kind of query, 1 to 4 for (p,T), (p,h), (p,s), (h,s), and the bits of its two values.
+// The kind is a u64, since any 24 bytes make a row (`row_of`): `read` refuses those that are none.
 #[derive(Clone, Copy)]
 pub struct Point {
     pub kind: u64,

@@ -30,6 +30,7 @@ pub fn u64_at(s: &[u8], i: usize) -> u64
     if s.len() <= i {
         return 0;
     }
+    // A sum of two, as in its definition: eight bytes in an array are no plainer.
     u32_at(s, i) + 4294967296 * u32_at(s, i + 4)
 }
 
