@@ -1,10 +1,12 @@
 -- The line of a call, as bytes of ASCII: `N NAME R`, and what was handed out; columns with a blank between them, and a newline at the end. Definitions only.
-use Rattle.std.specs.Prelude.{ℕ, cond, List, [], ◌∷◌, ◌++◌, replicate}
+use Rattle.std.specs.Prelude.{ℕ, List, [], ◌∷◌, ◌++◌, replicate, Result, Ok, Err}
 use Rattle.text.specs.Texts.{decimal_of, value_of, blank, newline}
 use Rattle.equations.specs.Equations.{region_of}
 use Rattle.states.specs.declared.Single.{Single}
 use Rattle.ledger.specs.Search.{bit}
-use Rattle.runs.specs.Answers.{number_of, is_refused, Value, whole, kelvin, state, values_of}
+use Rattle.refusals.specs.Refusals.{number_in}
+use Rattle.refusals.specs.declared.Refusal.{Refusal}
+use Rattle.runs.specs.Answers.{Value, whole, kelvin, state, values_of}
 use Rattle.runs.specs.declared.Answer.{Answer}
 use Rattle.records.specs.declared.Call.{Call}
 use Rattle.records.specs.declared.Call.TheVariants.{Post, Peek, Collect, Withdraw}
@@ -40,8 +42,9 @@ width_of (Collect caller ticket) = 13
 width_of (Withdraw caller ticket) = 0
 
 -- the values handed out; where the call is refused, `-` for each column of what it would have been
-unfoldable pub handed_of : Call → Answer → List (List ℕ)
-handed_of call a = cond (is_refused a) (replicate (width_of call) (45 ∷ [])) (columns_of (values_of a))
+unfoldable pub handed_of : Call → Result Answer Refusal → List (List ℕ)
+handed_of call (Err refusal) = replicate (width_of call) (45 ∷ [])
+handed_of call (Ok a) = columns_of (values_of (Ok a))
 
 -- ---- the line
 
@@ -57,9 +60,13 @@ name_of (Peek caller ticket) = 112 ∷ 101 ∷ 101 ∷ 107 ∷ []
 name_of (Collect caller ticket) = 99 ∷ 111 ∷ 108 ∷ 108 ∷ 101 ∷ 99 ∷ 116 ∷ []
 name_of (Withdraw caller ticket) = 119 ∷ 105 ∷ 116 ∷ 104 ∷ 100 ∷ 114 ∷ 97 ∷ 119 ∷ []
 
--- the refusal, 0 if there is none, and what was handed out
-unfoldable pub answer_of : Call → Answer → List ℕ
-answer_of call a = decimal_of (number_of a) ++ line_of (handed_of call a)
+-- what a call that is not refused handed out, behind a 0
+unfoldable pub given_of : Answer → List ℕ
+given_of a = decimal_of 0 ++ line_of (columns_of (values_of (Ok a)))
 
-unfoldable pub call_line : ℕ → Call → Answer → List ℕ
+-- the refusal, 0 if there is none, and what was handed out
+unfoldable pub answer_of : Call → Result Answer Refusal → List ℕ
+answer_of call a = decimal_of (number_in a) ++ line_of (handed_of call a)
+
+unfoldable pub call_line : ℕ → Call → Result Answer Refusal → List ℕ
 call_line number call a = decimal_of number ++ blank ∷ name_of call ++ blank ∷ answer_of call a

@@ -11,7 +11,7 @@ returns c =
     let front =
     then
     (then c.bytes-at.ensures (said (ap (λ (n : ℕ). number_column n blank) c.region_of.ensures) c.decimal-at.ensures))
-    (said (ap (λ (n : ℕ). number_column n blank) c.bit.ensures) c.decimal-at-2.ensures) in
+    (said (ap (λ (n : ℕ). number_column n blank) c.from.ensures) c.decimal-at-2.ensures) in
     let place = then (then front c.column-at.ensures) c.column-at-2.ensures in
     let energy = then (then (then place c.column-at-3.ensures) c.column-at-4.ensures) c.column-at-5.ensures in
     let state = then (then (then energy c.column-at-6.ensures) c.column-at-7.ensures) c.column-at-8.ensures in
