@@ -23,7 +23,7 @@ pub enum Refusal {
     // 7: h and s fit no region.
     NoRegion,
     // 8: a wet state where one phase is needed, or a derivative whose denominator is zero or not finite.
-    NoDerivative,
+    WetOrSingular,
     // 9: no caller, kind, number of halvings or property has this number.
     UnknownNumber,
     // 10: four tickets of the caller are open.
@@ -63,7 +63,7 @@ impl Refusal {
             Refusal::Region3 => 5,
             Refusal::EnthalpyOrEntropy => 6,
             Refusal::NoRegion => 7,
-            Refusal::NoDerivative => 8,
+            Refusal::WetOrSingular => 8,
             Refusal::UnknownNumber => 9,
             Refusal::FourOpen => 10,
             Refusal::NotOpen => 11,

@@ -32,7 +32,7 @@ bracket_of Vapour p = record { lo = vapour_start p; hi = t1073 }
 -- A query is placed as everywhere; a wet one is refused, since one phase is needed.
 abbrev pub judged_by : Float → Result Side Refusal → Result Judged Refusal
 judged_by p (Ok (Side.Phase phase)) = let b = bracket_of phase p in Ok (record { phase = phase; lo = b.lo; hi = b.hi })
-judged_by p (Ok (Side.Wet t)) = Err Refusal.NoDerivative
+judged_by p (Ok (Side.Wet t)) = Err Refusal.WetOrSingular
 judged_by p (Err refusal) = Err refusal
 
 unfoldable pub judged_of : ℕ → Float → Float → Result Judged Refusal

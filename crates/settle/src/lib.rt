@@ -78,7 +78,7 @@ pub fn judge(kind: u64, p: f64, y: f64) -> Result<Judged, Refusal>
                 hi: b.hi,
             })
         }
-        Side::Wet(_) => Err(Refusal::NoDerivative),
+        Side::Wet(_) => Err(Refusal::WetOrSingular),
     }
 }
 

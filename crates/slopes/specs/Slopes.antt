@@ -105,7 +105,7 @@ unfoldable pub divides_of : Float → Bool
 divides_of below = not (eq below (f64 0)) && finite below
 
 abbrev pub ratio_of : Float → Float → Result Float Refusal
-ratio_of above below = cond (divides_of below) (Ok (above ⊘ below)) (Err Refusal.NoDerivative)
+ratio_of above below = cond (divides_of below) (Ok (above ⊘ below)) (Err Refusal.WetOrSingular)
 
 unfoldable pub ratio_at : Slopes → ℕ → ℕ → ℕ → Result Float Refusal
 ratio_at a z x y = ratio_of (determinant a z y) (determinant a x y)

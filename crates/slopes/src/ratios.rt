@@ -81,7 +81,7 @@ fn at(a: Slopes, z: Property, x: Property, y: Property) -> Result<f64, Refusal>
         let above = determinant(change_of(a, z), held);
         return Ok(above / below);
     }
-    Err(Refusal::NoDerivative)
+    Err(Refusal::WetOrSingular)
 }
 
 // The derivative of property z by property x at constant y, numbered 1 to 8, at a state, from its slopes.

@@ -27,7 +27,7 @@ found_of (Err refusal) = Err refusal
 -- the derivative there
 abbrev pub quotient_found : Result Found Refusal → ℕ → ℕ → ℕ → Result Float Refusal
 quotient_found (Ok (Found.Single a)) z x y = ratio_at (slopes_at a.equation a.p a.t) z x y
-quotient_found (Ok (Found.Wet a)) z x y = Err Refusal.NoDerivative
+quotient_found (Ok (Found.Wet a)) z x y = Err Refusal.WetOrSingular
 quotient_found (Err refusal) z x y = Err refusal
 
 -- the state there, marked by the h or s asked

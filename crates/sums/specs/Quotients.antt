@@ -9,7 +9,7 @@ use Rattle.reply.specs.declared.Answer.{Answer}
 -- of a state of one phase alone
 abbrev pub quotient_at : Result Answer Refusal → ℕ → ℕ → ℕ → Result Float Refusal
 quotient_at (Ok (Answer.Single a)) z x y = ratio_at (slopes_at a.equation a.p a.t) z x y
-quotient_at (Ok (Answer.Wet a)) z x y = Err Refusal.NoDerivative
+quotient_at (Ok (Answer.Wet a)) z x y = Err Refusal.WetOrSingular
 quotient_at (Err refusal) z x y = Err refusal
 
 -- Unknown properties come first, then the query's own refusals, of which that of an unknown kind is the same 9, then 8.

@@ -20,7 +20,7 @@ pub fn quotient(kind: u64, c: f64, d: f64, z: u64, x: u64, y: u64) -> Result<f64
         Kind::Pt => quotient_at(place_pt(c, d)?, c, d, z, x, y),
         Kind::Py(given) => match of_py(given, c, d)? {
             Found::Single(a) => quotient_at(a.equation, a.p, a.t, z, x, y),
-            Found::Wet(_) => Err(Refusal::NoDerivative),
+            Found::Wet(_) => Err(Refusal::WetOrSingular),
         },
         Kind::Hs => slopes::quotient(of_hs(c, d)?.worked.slopes, z, x, y),
     }
