@@ -224,9 +224,8 @@ fn a12(rt: &impl Print, mut tally: Tally) -> io::Result<Tally> {
 // no printed number.
 fn lower_ps(t: f64) -> f64 {
     match ps(t) {
-        SaturationPressure::UpTo623(p) => p,
-        SaturationPressure::Above623(_) => 0.0 / 0.0,
-        SaturationPressure::Nowhere => 0.0 / 0.0,
+        Some(SaturationPressure::UpTo623(p)) => p,
+        _ => 0.0 / 0.0,
     }
 }
 
