@@ -7,7 +7,7 @@ use lib.Ieee.Fits.{down_pos}
 use lib.Ieee.Exact.{HasValue}
 use Rattle.elementary.specs.Root.{near_root, root_units, root_of}
 
--- ---- by the number of smallest ones
+-- by the number of smallest ones
 pub by_units : (x : Float) (a : ℕ) → HasValue x false a (2 ^ 1074) → 0 < a → root_of x ≡ root_units a
 unfolding root_of
 by_units nan a v h = elim v [ ]

@@ -22,8 +22,6 @@ pub ln2_is : of_bits binary64 0x3fe6_2e42_fefa_39ef ≡ ln2
 unfolding of_bits ln2 printed round
 ln2_is = refl
 
--- ---- a negated float is that of the other sign
-
 -- ---- the series and the sum
 pub series_step : {t : Float} (q : Float) (j : ℕ) → t ≡ series q j → t ⊗ q ⊕ of_bits binary64 0x3ff0_0000_0000_0000 ⊘ f64 (21 - 2 * j) ≡ series q (j + 1)
 unfolding series

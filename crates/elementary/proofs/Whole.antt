@@ -1,4 +1,4 @@
--- Roots of whole numbers: what `floor_root` and `near_root` are, and that nothing else is. Assumes nothing.
+-- Roots of whole numbers: what `floor_root` is, and how many digits `near_root` has. Assumes nothing.
 use Rattle.std.proofs.Common.{◌≡◌, ℕ, zero, suc, ◌+◌, ◌-◌, ◌*◌, ◌/◌, ◌^◌, ◌<◌, ◌≤◌, Bool, true, false, cond, not, T, leb, refl, lt_of_le_of_lt, le_of_lt, div-lt_iff_lt-mul, add-mul, mul-le-mul, mul-le-mul_left, mul-lt-mul_of_pos_right, pow-suc, lt_of_not-le, mul-add, not-le_of_lt, arith, leb→le}
 use native.Mathlib.Nat.{mul-mul-mul_comm}
 use lib.Dec.{nleb→lt}
@@ -31,8 +31,6 @@ floor_law (suc k) n h = go (floor_root k (n / 4)) (floor_law k (n / 4) ((div-lt_
     go : (r : ℕ) → Floor (n / 4) r → (b : Bool) → (T b → (2 * r + 1) * (2 * r + 1) ≤ n) → (T (not b) → n < (2 * r + 1) * (2 * r + 1)) → Floor n (cond b (2 * r + 1) (2 * r))
     go r f true up down = (up tt, omega (arith, f, square_suc (2 * r + 1), square_odd {y = 2 * r + 1} r (omega arith), square_suc r))
     go r f false up down = (omega (arith, f, square_twice {y = 2 * r} r (omega arith)), down tt)
-
--- ---- near_root
 
 -- where the root is from 2 ^ 52 up to 2 ^ 53 - 1/2, the nearest number has 53 binary digits
 pub near_size : (n : ℕ) → 4 ^ 52 ≤ n → 4 * n < (2 ^ 54 - 1) * (2 ^ 54 - 1) → (2 ^ 52 ≤ near_root n) × (near_root n < 2 ^ 53)
