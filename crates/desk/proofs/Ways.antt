@@ -1,28 +1,28 @@
 -- What the calls read of a desk, against the definitions. Assumes nothing.
 use mathlib.Core.Path.{◌≡◌, refl, sym}
 use mathlib.Core.Bool.{Bool, true, false, cond}
-use Prim.Native.Nat.{ℕ, ◌+◌, ◌%◌, ◌≤◌, ◌<◌}
+use Prim.Native.Nat.{ℕ, ◌+◌, ◌%◌, ◌<◌}
 use native.Mathlib.Omega.{arith}
-use borrow.Author.Tests.{lt-ltb, le-ltb, ltb-true, ltb-false, leb-true}
+use borrow.Author.Tests.{lt-ltb, ltb-true, leb-true}
 use lib.Dec.{leb, ltb}
 use lib.ListN.{get_or, length}
 use mir.Syntax.{w64}
 use mir.Val.{Fits}
-use Rattle.std.specs.Prelude.{Option, Some, None, Ok}
-use Rattle.refusals.specs.declared.Refusal.{Refusal}
+use Rattle.std.specs.Prelude.{Some, None, Ok}
 use Rattle.ledger.specs.declared.Row.{Row}
 use Rattle.ledger.specs.declared.Desk.{Desk}
 use Rattle.runs.specs.declared.Answer.TheVariants as Answer
 use Rattle.ledger.specs.Rows.{row, tally, of_caller, vacant, lowest, unfinished, counts_right, rows_right, sound, put, found}
-use Rattle.runs.specs.Model.{answers, refuse, query_of, bracket_of, settle, halved_row, next, past, turn_of, open_of, emptied, peek_of, peek_at, collect_of, collect_at}
+use Rattle.runs.specs.Model.{known, answers, halved_row, next, past, turn_of, open_of}
 use Rattle.ledger.proofs.Tests.{unfinished_is}
 use Rattle.ledger.proofs.Changes.{onward_true}
 use Rattle.ledger.proofs.Good.{rows_good, free_row}
 use Rattle.ledger.proofs.Search.{and_true}
 use Rattle.ledger.proofs.Lists.{row_read}
+use Rattle.runs.proofs.Posts.{known_is}
 use Rattle.runs.proofs.Tickets.{open_seat}
 
--- a search that found a place, one that found none, and one that has to find one
+-- a search that found a place, and one that has to
 module _ (n : ℕ) where
   pub found_at : (k : ℕ) → Some k ≡ found n → (k ≡ n) × (k < 32)
   found_at k = go (ltb n 32) refl
@@ -30,13 +30,6 @@ module _ (n : ℕ) where
       go : (b : Bool) → ltb n 32 ≡ b → Some k ≡ cond b (Some n) None → (k ≡ n) × (k < 32)
       go true q e = let same : k ≡ n = cc in (same, omega (arith, ltb-true n 32 q))
       go false q e = absurd cc
-
-  pub found_none : None ≡ found n → 32 ≤ n
-  found_none = go (ltb n 32) refl
-    where
-      go : (b : Bool) → ltb n 32 ≡ b → ◌≡◌ {A = Option ℕ} None (cond b (Some n) None) → 32 ≤ n
-      go true q e = absurd cc
-      go false q e = ltb-false n 32 q
 
   pub found_some : n < 32 → found n ≡ Some n
   found_some h = rw (lt-ltb n 32 h) refl
@@ -54,6 +47,10 @@ module _ (d : Desk) (s : sound d ≡ true) where
   free caller n l e h =
       let r = and_true (counts_right d.counts) (rows_right d) (and_true (leb d.pointer 31) _ s).1 in
       free_row d (rows_good d r.1) caller l (rw e at h)
+
+-- a caller that a post may name is one of eight
+pub caller_known : (caller kind number : ℕ) → known caller kind number ≡ true → caller < 8
+caller_known caller kind number e = (known_is caller kind number e).who
 
 -- the row of a ticket is one of the desk's
 pub inside : (d : Desk) (c t i : ℕ) → Ok i ≡ open_of d c t → i < 32
@@ -74,20 +71,3 @@ module _ (d : Desk) (long : length d.rows ≡ 32) (i : ℕ) (r : Row) where
   turn_goes_on l q =
       let u = (unfinished_is (row d i) (rw q at (onward_true unfinished d d.pointer l))).1 in
       rw (row_read d long i r (omega arith)) at u
-
-  module _ (c t : ℕ) (o : Ok i ≡ open_of d c t) where
-    same : row d i ≡ here
-    same = row_read d long i r (inside d c t i o)
-
-    pub peek_shows : answers (Answer.Shown here.halvings here.lo here.hi) d ≡ peek_of d c t
-    unfolding peek_of peek_at
-    peek_shows = rw (← o, same)
-
-    pub collect_early : here.halvings < here.number → refuse Refusal.NotReady d ≡ collect_of d c t
-    unfolding collect_of collect_at
-    collect_early h = rw (← o, same, lt-ltb here.halvings here.number h)
-
-    pub collect_hands : here.number ≤ here.halvings
-        → answers (Answer.State (settle (query_of here) (bracket_of here)) here.number here.lo here.hi) (emptied d i) ≡ collect_of d c t
-    unfolding collect_of collect_at
-    collect_hands h = rw (← o, same, le-ltb here.halvings here.number h)

@@ -8,6 +8,7 @@ use refusals::Refusal;
 use runs::{Answer, Outcome};
 
 // A desk with every row empty and every number in it 0.
+#[tactic(auto, unfolding(runs::specs::Model::new_desk))]
 pub fn new_desk() -> Desk
     ensures { result ≡ new_desk }
 {
@@ -19,6 +20,7 @@ pub fn new_desk() -> Desk
 }
 
 // Whether a caller, a kind and a number of halvings are ones that a post may name.
+#[tactic(auto, unfolding(runs::specs::Model::known))]
 fn known(caller: u64, kind: u64, number: u64) -> bool
     ensures { result ≡ known caller kind number }
 {
@@ -35,6 +37,7 @@ fn known(caller: u64, kind: u64, number: u64) -> bool
 }
 
 // A post on the desk: the ticket that it gets, its caller's own count, and the lowest free row holds its job.
+#[tactic(auto, unfolding(runs::specs::Model::post_of, runs::specs::Model::judged_post, runs::specs::Model::admitted), using(crate::proofs::Ways::caller_known, ledger::proofs::Lists::count_fits))]
 fn posted(
     d: &mut Desk,
     caller: u64,
@@ -88,6 +91,7 @@ pub fn post(mut d: Desk, caller: u64, kind: u64, p: f64, y: f64, number: u64) ->
 }
 
 // The row after one halving of its own bracket.
+#[tactic(auto, unfolding(runs::specs::Model::halved_row))]
 fn halved(r: Row) -> Row
     requires { r.halvings < r.number }
     ensures { result ≡ halved_row r }
@@ -102,6 +106,7 @@ fn halved(r: Row) -> Row
 }
 
 // A turn on the desk.
+#[tactic(auto, unfolding(runs::specs::Model::turn_of))]
 fn turned(d: &mut Desk) -> Result<Answer, Refusal>
     ensures { record { answer = result; desk = d.new } ≡ turn_of d.old }
 {
@@ -128,6 +133,7 @@ pub fn turn(mut d: Desk) -> Outcome
 }
 
 // The row of a caller's ticket. Refused with 15, 9, 11.
+#[tactic(auto, unfolding(runs::specs::Model::open_of))]
 fn look_up(d: &Desk, caller: u64, ticket: u64) -> Result<usize, Refusal>
     ensures { result ≡ open_of d.now caller ticket }
 {
@@ -141,6 +147,7 @@ fn look_up(d: &Desk, caller: u64, ticket: u64) -> Result<usize, Refusal>
 }
 
 // What a peek shows of the desk.
+#[tactic(auto, unfolding(runs::specs::Model::peek_of, runs::specs::Model::peek_at), using(crate::proofs::Ways::inside, ledger::proofs::Lists::row_fits, ledger::proofs::Lists::row_read))]
 fn shown(d: &Desk, caller: u64, ticket: u64) -> Result<Answer, Refusal>
     ensures { record { answer = result; desk = d.now } ≡ peek_of d.now caller ticket }
 {
@@ -162,6 +169,7 @@ pub fn peek(d: Desk, caller: u64, ticket: u64) -> Outcome
 }
 
 // A collect on the desk.
+#[tactic(auto, unfolding(runs::specs::Model::collect_of, runs::specs::Model::collect_at), using(crate::proofs::Ways::inside, ledger::proofs::Lists::row_fits, ledger::proofs::Lists::row_read))]
 fn collected(d: &mut Desk, caller: u64, ticket: u64) -> Result<Answer, Refusal>
     ensures { record { answer = result; desk = d.new } ≡ collect_of d.old caller ticket }
 {
@@ -189,6 +197,7 @@ pub fn collect(mut d: Desk, caller: u64, ticket: u64) -> Outcome
 }
 
 // A withdraw on the desk.
+#[tactic(auto, unfolding(runs::specs::Model::withdraw_of, runs::specs::Model::withdraw_at), using(crate::proofs::Ways::inside, ledger::proofs::Lists::row_fits))]
 fn withdrawn(d: &mut Desk, caller: u64, ticket: u64) -> Result<Answer, Refusal>
     ensures { record { answer = result; desk = d.new } ≡ withdraw_of d.old caller ticket }
 {

@@ -4,7 +4,6 @@ use mathlib.Core.Logic.{◌≢◌}
 use mathlib.Core.Bool.{Bool, true, false, ◌&&◌}
 use mathlib.Core.List.{List}
 use Prim.Native.Nat.{ℕ, ◌≤◌, ◌<◌}
-use native.Mathlib.Omega.{arith}
 use lib.Dec.{leb, ltb, eqb}
 use lib.ListN.{get_or}
 use borrow.Author.Tests.{ltb-true, leb-true, eqb-true, not-true, not-false, lt-ltb, le-leb, eq-eqb}
@@ -79,9 +78,6 @@ pub is_named : (n : ℕ) → 10 ≤ n → n ≤ 50 → nameable n ≡ true
 unfolding nameable
 is_named n l h = rw (le-leb 10 n l, le-leb n 50 h) refl
 
-pub never : (a b : ℕ) → a < b → b ≤ a → ⊥
-never a b h l = omega arith
-
 -- a filled row that is right by itself
 pub record Right (counts : List ℕ) (r : Row) : Type 0 where
   pub known : r.caller < 8
@@ -135,16 +131,3 @@ module _ (counts : List ℕ) (r : Row) where
         is_named r.number f.number_low f.number_high,
         le-leb _ _ f.within,
       )
-
-  -- a number that no post may name
-  pub not_named : nameable r.number ≡ false → Right counts r → ⊥
-  not_named n f = let e = sym n ∙ is_named r.number f.number_low f.number_high in absurd cc
-
-  pub not_right : (Right counts r → ⊥) → row_right counts r ≡ false
-  not_right h = not_some (row_right counts r) (λ e. h (right_is e))
-
-  -- where all but the last are known, the last decides
-  pub last_right : r.caller < 8 → r.ticket < get_or counts r.caller 0 → 1 ≤ r.region → r.region ≤ 2 → 2 ≤ r.kind → r.kind ≤ 3 → nameable r.number ≡ true
-      → row_right counts r ≡ leb r.halvings r.number
-  unfolding row_right
-  last_right a b e f g h n = simp (lt-ltb _ _ a, lt-ltb _ _ b, le-leb _ _ e, le-leb _ _ f, le-leb _ _ g, le-leb _ _ h, n)

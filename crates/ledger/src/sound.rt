@@ -10,6 +10,7 @@ use super::{Desk, Row};
 pub const TICKETS: u64 = 1000000;
 
 // Whether a post may name this number of halvings.
+#[tactic(auto, unfolding(crate::specs::Rows::nameable))]
 pub fn is_nameable(number: u64) -> bool
     ensures { result ≡ nameable number }
 {
@@ -20,6 +21,7 @@ pub fn is_nameable(number: u64) -> bool
 }
 
 // A filled row by itself.
+#[tactic(auto, unfolding(crate::specs::Rows::row_right, crate::specs::Rows::nameable))]
 fn row_right(r: Row, counts: &[u64; 8]) -> bool
     ensures { result ≡ row_right counts.now r }
 {
@@ -95,6 +97,7 @@ fn rows_right(d: &Desk) -> bool
 }
 
 // Whether a desk is sound.
+#[tactic(auto, unfolding(crate::specs::Rows::sound))]
 pub fn is_sound(d: &Desk) -> bool
     ensures { result ≡ sound d.now }
 {

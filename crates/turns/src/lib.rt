@@ -18,6 +18,7 @@ pub struct Turned {
 }
 
 // Counts one turn more.
+#[tactic(auto, unfolding(crate::specs::Turns::after_turn))]
 fn count(t: Turned, turn: Outcome) -> Turned
     requires { (t.halved < 18446744073709551615) × (t.idle < 18446744073709551615) }
     ensures { result ≡ after_turn t turn.answer turn.desk }

@@ -1,22 +1,10 @@
--- `desk::calls::turned` meets its contract: 15, idle, or one halving of the first unfinished row at or after the pointer. Assumes nothing.
-use Rattle.std.proofs.Common.{arith, ◌≡◌, length, sym, ◌∙◌}
-use borrow.Author.Tests.{le-ltb}
-use Rattle.runs.specs.Model.{turn_of}
-use Rattle.desk.proofs.Ways.{found_at, found_none, points, turn_goes_on, turn_halves}
+-- `desk::calls::turned` meets its contract: one halving of the first unfinished row at or after the pointer. Assumes nothing.
+use Rattle.std.proofs.Common.{◌≡◌, length, arith, sym, ◌∙◌}
+use Rattle.desk.proofs.Ways.{found_at, points, turn_goes_on, turn_halves}
 use Rattle.desk.proofs.calls.turned.Goals as goal
 
-pub returns-then-not-is_sound : goal.returns-then-not-is_sound
-unfolding turn_of
-returns-then-not-is_sound c = rw (sym c.is_sound.ensures ∙ c.if-not-is_sound.true)
-
-pub returns-in_default : goal.returns-in_default
-unfolding turn_of
-returns-in_default c =
-    rw (sym c.is_sound.ensures ∙ c.if-not-is_sound.false, le-ltb _ 32 (found_none _ c.in_default.ensures))
-
 pub overflow_add-i : goal.overflow_add-i
-overflow_add-i c =
-    points c.args.d.now (sym c.is_sound.ensures ∙ c.if-not-is_sound.false) _ (found_at _ _ c.in-Some.ensures).1
+overflow_add-i c = points c.args.d.now (sym c.is_sound.ensures ∙ c.if-not-is_sound.false) _ (found_at _ _ c.in-Some.ensures).1
 
 pub halved-requires : goal.halved-requires
 halved-requires c =
