@@ -1,5 +1,5 @@
 -- `settle::judge` meets its contract: a kind that may not be posted is refused, and the place of p and the h or s is taken apart as `judged_by` does. Assumes nothing.
-use mathlib.Core.Path.{◌≡◌, refl, sym, ◌∙◌}
+use mathlib.Core.Path.{◌≡◌, refl}
 use mathlib.Core.Bool.{Bool, true, false, cond}
 use Rattle.std.specs.Prelude.{Some, None, Ok, Err, ok_or}
 use Rattle.std.proofs.lemmas.Result.{err_from_is_err_and}
