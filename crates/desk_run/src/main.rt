@@ -5,6 +5,7 @@
 #![tactic(auto)]
 
 use desk::{Answer, Desk};
+use refusals::Refusal;
 use std::io;
 
 // One line: the call, the refusal number and the value.
@@ -18,28 +19,16 @@ fn line(rt: &impl Print, call: &[u8], number: u64, value: u64) -> io::Result<()>
 }
 
 // What a call answered.
-fn say(rt: &impl Print, call: &[u8], answer: Answer) -> io::Result<()> {
+fn say(rt: &impl Print, call: &[u8], answer: Result<Answer, Refusal>) -> io::Result<()> {
     match answer {
-        Answer::Refused(n) => line(rt, call, n, 0),
-        Answer::Ticket(t) => line(rt, call, 0, t),
-        Answer::Halved => line(rt, call, 0, 1),
-        Answer::Idle => line(rt, call, 0, 0),
-        Answer::Shown {
-            halvings,
-            lo: _,
-            hi: _,
-        } => line(rt, call, 0, halvings),
-        Answer::State {
-            settled,
-            number: _,
-            lo: _,
-            hi: _,
-        } => {
-            let single = settled.single;
-            let equation = single.equation;
-            line(rt, call, 0, equations::region_of(equation))
+        Err(refusal) => line(rt, call, refusal.number(), 0),
+        Ok(Answer::Ticket(t)) => line(rt, call, 0, t),
+        Ok(Answer::Halved) => line(rt, call, 0, 1),
+        Ok(Answer::Idle | Answer::Freed) => line(rt, call, 0, 0),
+        Ok(Answer::Shown { halvings, .. }) => line(rt, call, 0, halvings),
+        Ok(Answer::State { settled, .. }) => {
+            line(rt, call, 0, equations::region_of(settled.single.equation))
         }
-        Answer::Freed => line(rt, call, 0, 0),
     }
 }
 
@@ -54,10 +43,8 @@ fn post_for(
     number: u64,
 ) -> io::Result<Desk> {
     let o = desk::post(d, caller, kind, p, y, number);
-    let a = o.answer;
-    say(rt, b"post", a)?;
-    let e = o.desk;
-    Ok(e)
+    say(rt, b"post", o.answer)?;
+    Ok(o.desk)
 }
 
 // The same for 40 halvings.
@@ -72,34 +59,27 @@ fn post(rt: &impl Print, d: Desk, caller: u64, kind: u64, y: f64) -> io::Result<
 
 fn peek(rt: &impl Print, d: Desk, caller: u64, ticket: u64) -> io::Result<()> {
     let o = desk::peek(d, caller, ticket);
-    let a = o.answer;
-    say(rt, b"peek", a)
+    say(rt, b"peek", o.answer)
 }
 
 fn collect(rt: &impl Print, d: Desk, caller: u64, ticket: u64) -> io::Result<Desk> {
     let o = desk::collect(d, caller, ticket);
-    let a = o.answer;
-    say(rt, b"collect", a)?;
-    let e = o.desk;
-    Ok(e)
+    say(rt, b"collect", o.answer)?;
+    Ok(o.desk)
 }
 
 fn withdraw(rt: &impl Print, d: Desk, caller: u64, ticket: u64) -> io::Result<Desk> {
     let o = desk::withdraw(d, caller, ticket);
-    let a = o.answer;
-    say(rt, b"withdraw", a)?;
-    let e = o.desk;
-    Ok(e)
+    say(rt, b"withdraw", o.answer)?;
+    Ok(o.desk)
 }
 
 // So many turns that say nothing, and one that speaks.
 fn turn_after(rt: &impl Print, d: Desk, silent: u64) -> io::Result<Desk> {
     let t = turns::turns(d, silent);
     let o = desk::turn(t.desk);
-    let a = o.answer;
-    say(rt, b"turn", a)?;
-    let e = o.desk;
-    Ok(e)
+    say(rt, b"turn", o.answer)?;
+    Ok(o.desk)
 }
 
 fn main(rt: HostRuntime) -> io::Result<()> {

@@ -8,9 +8,9 @@ use desk::{Answer as Answered, Desk, Outcome};
 use hot::Region5;
 use liquid::Region1;
 use properties::{Basic, State};
+use refusals::Refusal;
 use reply::Answer;
 use saturation_line::{SaturationPressure, ps};
-use slopes::Derivative;
 use std::io;
 use steam::Region2;
 
@@ -23,29 +23,22 @@ fn sum_of(a: State) -> f64 {
 const REFUSED: f64 = -1000000000.0;
 
 // Every property of an answer.
-fn answered(a: Answer) -> f64 {
+fn answered(a: Result<Answer, Refusal>) -> f64 {
     match a {
-        Answer::Single(b) => {
-            let state = b.state;
-            b.t + sum_of(state)
-        }
-        Answer::Wet(b) => b.t + b.v + b.u + b.h + b.s + b.x,
-        Answer::Refused(_) => REFUSED,
+        Ok(Answer::Single(b)) => b.t + sum_of(b.state),
+        Ok(Answer::Wet(b)) => b.t + b.v + b.u + b.h + b.s + b.x,
+        Err(_) => REFUSED,
     }
 }
 
-fn derived(d: Derivative) -> f64 {
-    match d {
-        Derivative::Value(v) => v,
-        Derivative::Refused(_) => REFUSED,
-    }
+fn derived(d: Result<f64, Refusal>) -> f64 {
+    d.unwrap_or(REFUSED)
 }
 
-fn saturated(s: SaturationPressure) -> f64 {
+fn saturated(s: Option<SaturationPressure>) -> f64 {
     match s {
-        SaturationPressure::UpTo623(p) => p,
-        SaturationPressure::Above623(p) => p,
-        SaturationPressure::Nowhere => REFUSED,
+        Some(SaturationPressure::UpTo623(p) | SaturationPressure::Above623(p)) => p,
+        None => REFUSED,
     }
 }
 
@@ -67,7 +60,7 @@ fn three_of(x: f64) -> Three {
 }
 
 // The derivative by the three properties that x decides on.
-fn some_quotient(x: f64, kind: u64, a: f64, b: f64) -> Derivative {
+fn some_quotient(x: f64, kind: u64, a: f64, b: f64) -> Result<f64, Refusal> {
     let n = three_of(x);
     sums::quotient(kind, a, b, n.z, n.x, n.y)
 }
@@ -151,9 +144,7 @@ fn desk_of(jobs: u64) -> Desk {
     let mut d = desk::new_desk();
     let mut y = 100.0;
     for k in 0..jobs {
-        let o = desk::post(d, k % 8, 2, 1.0, y, 40);
-        let e = o.desk;
-        d = e;
+        d = desk::post(d, k % 8, 2, 1.0, y, 40).desk;
         y = y + 10.0;
     }
     d
@@ -173,14 +164,8 @@ fn called(operation: u8, d: Desk, k: usize) -> Outcome {
 
 // The upper end of the first job's bracket, so that no halving is left unworked.
 fn shown(d: Desk) -> f64 {
-    let o = desk::peek(d, 0, 0);
-    let a = o.answer;
-    match a {
-        Answered::Shown {
-            halvings: _,
-            lo: _,
-            hi,
-        } => hi,
+    match desk::peek(d, 0, 0).answer {
+        Ok(Answered::Shown { hi, .. }) => hi,
         _ => 0.0,
     }
 }
@@ -193,9 +178,7 @@ fn run_desk(operation: u8, n: usize) -> f64 {
         d.pointer = 32;
     }
     for k in 0..n {
-        let o = called(operation, d, k);
-        let e = o.desk;
-        d = e;
+        d = called(operation, d, k).desk;
     }
     shown(d)
 }
@@ -205,9 +188,7 @@ fn five_withdraws(first: Desk, k: usize) -> f64 {
     let mut d = first;
     for j in 0..5 {
         let n = ((k % 1000 + j) % 32) as u64;
-        let o = desk::withdraw(d, n % 8, n / 8);
-        let e = o.desk;
-        d = e;
+        d = desk::withdraw(d, n % 8, n / 8).desk;
     }
     d.rows[31].hi
 }
@@ -227,9 +208,7 @@ fn five_posts(first: Desk, start: f64) -> f64 {
     let mut d = first;
     let mut x = start;
     for j in 0..5 {
-        let o = desk::post(d, 3 + j, 2, x, 100.0 + 10.0 * x, 10 + j);
-        let e = o.desk;
-        d = e;
+        d = desk::post(d, 3 + j, 2, x, 100.0 + 10.0 * x, 10 + j).desk;
         x = x * 1.05;
     }
     d.rows[31].hi
@@ -257,17 +236,9 @@ fn ready_desk() -> Desk {
 }
 
 // The state that a collect hands out.
-fn handed_out(a: Answered) -> f64 {
+fn handed_out(a: Result<Answered, Refusal>) -> f64 {
     match a {
-        Answered::State {
-            settled,
-            number: _,
-            lo: _,
-            hi: _,
-        } => {
-            let state = settled.single.state;
-            sum_of(state)
-        }
+        Ok(Answered::State { settled, .. }) => sum_of(settled.single.state),
         _ => REFUSED,
     }
 }
@@ -279,10 +250,8 @@ fn five_collects(first: Desk, k: usize) -> f64 {
     for j in 0..5 {
         let n = ((k % 1000 + j) % 32) as u64;
         let o = desk::collect(d, n % 8, n / 8);
-        let a = o.answer;
-        let e = o.desk;
-        d = e;
-        sum = sum + handed_out(a);
+        d = o.desk;
+        sum = sum + handed_out(o.answer);
     }
     sum + d.rows[31].hi
 }

@@ -5,6 +5,7 @@ use native.Mathlib.Omega.{arith}
 use mathlib.Core.Path.{◌≡◌, refl, sym, ap, ◌∙◌}
 use mathlib.Core.List.{List, [], ◌∷◌, ◌++◌}
 use lib.ListN.{replicate}
+use Rattle.std.proofs.Common.{Option, Some, None}
 use Rattle.runs.specs.Runs as Runs
 use Rattle.ledger.specs.declared.Desk.{Desk}
 use Rattle.runs.proofs.Own.{after_append}
@@ -15,24 +16,24 @@ use Rattle.transcript.specs.Steps.{call_of, desk_after, standing, deed_at}
 -- ---- one record
 
 -- the calls that a record makes
-abbrev pub calls_of : Deed → List Runs.Call
-calls_of (Deed.Asked call) = call_of call ∷ []
-calls_of (Deed.Turns n) = replicate n Runs.turn
-calls_of Deed.Given = []
-calls_of Deed.Shown = []
-calls_of Deed.Bad = []
+abbrev pub calls_of : Option Deed → List Runs.Call
+calls_of (Some (Deed.Asked call)) = call_of call ∷ []
+calls_of (Some (Deed.Turns n)) = replicate n Runs.turn
+calls_of (Some Deed.Given) = []
+calls_of (Some Deed.Shown) = []
+calls_of None = []
 
 -- it gives no desk
-abbrev pub Calls : Deed → Type 0
-Calls deed = deed ≡ Deed.Given → ⊥
+abbrev pub Calls : Option Deed → Type 0
+Calls deed = deed ≡ Some Deed.Given → ⊥
 
-record_run : (rest : List ℕ) (d : Desk) (deed : Deed) → Calls deed → desk_after rest d deed ≡ Runs.after_from d (calls_of deed)
+record_run : (rest : List ℕ) (d : Desk) (deed : Option Deed) → Calls deed → desk_after rest d deed ≡ Runs.after_from d (calls_of deed)
 unfolding desk_after Runs.after_from
-record_run rest d (Deed.Asked call) h = refl
-record_run rest d (Deed.Turns n) h = turns_desk n _
-record_run rest d Deed.Given h = absurd (h refl)
-record_run rest d Deed.Shown h = refl
-record_run rest d Deed.Bad h = refl
+record_run rest d (Some (Deed.Asked call)) h = refl
+record_run rest d (Some (Deed.Turns n)) h = turns_desk n _
+record_run rest d (Some Deed.Given) h = absurd (h refl)
+record_run rest d (Some Deed.Shown) h = refl
+record_run rest d None h = refl
 
 -- ---- a run
 

@@ -1,9 +1,16 @@
 -- The lines of turns, of a desk given, and of a record that is none, as bytes of ASCII: columns with a blank between them, and a newline at the end.
 -- Definitions only.
-use Rattle.std.specs.Prelude.{ℕ, List, [], ◌∷◌, ◌++◌}
+use Rattle.std.specs.Prelude.{ℕ, List, [], ◌∷◌, ◌++◌, Option, Some, None}
+use Rattle.refusals.specs.Refusals.{number_of}
+use Rattle.refusals.specs.declared.Refusal.{Refusal}
 use Rattle.text.specs.Texts.{blank, newline, number_column}
 
 -- ---- turns: `N turn R HALVED IDLE`
+
+-- the number of a refusal, 0 where there is none
+abbrev pub number_if : Option Refusal → ℕ
+number_if (Some refusal) = number_of refusal
+number_if None = 0
 
 unfoldable pub turns_line : ℕ → ℕ → ℕ → ℕ → List ℕ
 turns_line number refusal halved idle =

@@ -1,6 +1,6 @@
 -- What a record does: the desk that it leaves, the bytes that it takes, the text that it writes; and what a run of them does. The calls are those of the
 -- desk's runs, in the words of its theorems. Definitions only.
-use Rattle.std.specs.Prelude.{ℕ, zero, suc, ◌+◌, ◌≤◌, ◌<◌, ◌≡◌, List, length, drop}
+use Rattle.std.specs.Prelude.{ℕ, zero, suc, ◌+◌, ◌≤◌, ◌<◌, ◌≡◌, List, length, drop, Option, Some, None}
 use Rattle.text.specs.Texts.{joined}
 use Rattle.runs.specs.Model.{new_desk}
 use Rattle.runs.specs.Runs as Runs
@@ -9,14 +9,14 @@ use Rattle.runs.specs.declared.Outcome.{Outcome}
 use Rattle.records.specs.declared.Call.{Call}
 use Rattle.records.specs.declared.Call.TheVariants.{Post, Peek, Collect, Withdraw}
 use Rattle.records.specs.declared.Deed.{Deed}
-use Rattle.records.specs.declared.Deed.TheVariants.{Asked, Turns, Given, Shown, Bad}
+use Rattle.records.specs.declared.Deed.TheVariants.{Asked, Turns, Given, Shown}
 use Rattle.records.specs.Records.{record_bytes, desk_bytes, desk_in, deed_of}
 use Rattle.call_lines.specs.Lines.{call_line}
 use Rattle.desk_lines.specs.Lines.{shown_lines}
 use Rattle.turns.specs.declared.Turned.{Turned}
 use Rattle.turns.specs.Turns.{turns_of}
 use Rattle.transcript.specs.declared.Step.{Step}
-use Rattle.transcript.specs.Lines.{turns_line, given_line, bad_line}
+use Rattle.transcript.specs.Lines.{number_if, turns_line, given_line, bad_line}
 
 -- ---- a call
 
@@ -32,20 +32,20 @@ outcome_of d call = Runs.step d (call_of call)
 
 -- ---- a record
 
-unfoldable pub desk_after : List ℕ → Desk → Deed → Desk
-desk_after rest d (Asked call) = (outcome_of d call).desk
-desk_after rest d (Turns n) = (turns_of n d).desk
-desk_after rest d Given = desk_in rest
-desk_after rest d Shown = d
-desk_after rest d Bad = d
+unfoldable pub desk_after : List ℕ → Desk → Option Deed → Desk
+desk_after rest d (Some (Asked call)) = (outcome_of d call).desk
+desk_after rest d (Some (Turns n)) = (turns_of n d).desk
+desk_after rest d (Some Given) = desk_in rest
+desk_after rest d (Some Shown) = d
+desk_after rest d None = d
 
 -- a bad record takes all that is left: it ends the run
-unfoldable pub taken_by : List ℕ → Deed → ℕ
-taken_by rest (Asked call) = record_bytes
-taken_by rest (Turns n) = record_bytes
-taken_by rest Given = desk_bytes
-taken_by rest Shown = record_bytes
-taken_by rest Bad = length rest
+unfoldable pub taken_by : List ℕ → Option Deed → ℕ
+taken_by rest (Some (Asked call)) = record_bytes
+taken_by rest (Some (Turns n)) = record_bytes
+taken_by rest (Some Given) = desk_bytes
+taken_by rest (Some Shown) = record_bytes
+taken_by rest None = length rest
 
 -- What `play` promises beside the text: r has the desk that the record leaves, where it finds d, and how many bytes it takes.
 pub record Done (rest : List ℕ) (d : Desk) (r : Step) : Type 0 where
@@ -53,14 +53,14 @@ pub record Done (rest : List ℕ) (d : Desk) (r : Step) : Type 0 where
   pub taken : r.taken ≡ taken_by rest (deed_of rest)
 
 abbrev pub turns_text : ℕ → Turned → List ℕ
-turns_text number t = turns_line number t.refusal t.halved t.idle
+turns_text number t = turns_line number (number_if t.refusal) t.halved t.idle
 
-unfoldable pub text_of : ℕ → Desk → Deed → List ℕ
-text_of number d (Asked call) = call_line number call (outcome_of d call).answer
-text_of number d (Turns n) = turns_text number (turns_of n d)
-text_of number d Given = given_line number
-text_of number d Shown = shown_lines number d
-text_of number d Bad = bad_line number
+unfoldable pub text_of : ℕ → Desk → Option Deed → List ℕ
+text_of number d (Some (Asked call)) = call_line number call (outcome_of d call).answer
+text_of number d (Some (Turns n)) = turns_text number (turns_of n d)
+text_of number d (Some Given) = given_line number
+text_of number d (Some Shown) = shown_lines number d
+text_of number d None = bad_line number
 
 -- ---- a run
 
@@ -80,7 +80,7 @@ unfoldable pub standing : List ℕ → ℕ → Standing
 standing run zero = record { desk = new_desk; rest = run }
 standing run (suc k) = onward (standing run k)
 
-abbrev pub deed_at : List ℕ → ℕ → Deed
+abbrev pub deed_at : List ℕ → ℕ → Option Deed
 deed_at run k = deed_of (standing run k).rest
 
 -- the text of record k, which has number k + 1

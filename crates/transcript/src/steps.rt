@@ -5,7 +5,7 @@ ghost use Rattle.records.specs.Records.{deed_of};
 ghost use Rattle.transcript.specs.Steps.{outcome_of, Done, text_of};
 
 use crate::Step;
-use crate::lines::{opened, turned};
+use crate::lines::{number_if, opened, turned};
 use call_lines::told;
 use desk::{Desk, Outcome};
 use desk_lines::shown;
@@ -42,23 +42,19 @@ fn stepped(desk: Desk, taken: usize, end: usize) -> Step
 pub fn play(rest: &[u8], number: u64, d: Desk, out: &mut [u8]) -> Step
     ensures { Done rest.now d result × Written out.old 0 (text_of number d (deed_of rest.now)) out.new result.end }
 {
-    let deed = read(rest);
-    match deed {
-        Deed::Asked(call) => {
+    match read(rest) {
+        Some(Deed::Asked(call)) => {
             let o = asked(d, call);
-            let answer = o.answer;
-            let end = told(number, call, answer, out);
-            let after = o.desk;
-            stepped(after, 48, end)
+            let end = told(number, call, o.answer, out);
+            stepped(o.desk, 48, end)
         }
-        Deed::Turns(n) => {
+        Some(Deed::Turns(n)) => {
             let t = turns(d, n);
-            let end = turned(number, t.refusal, t.halved, t.idle, out);
-            let after = t.desk;
-            stepped(after, 48, end)
+            let end = turned(number, number_if(t.refusal), t.halved, t.idle, out);
+            stepped(t.desk, 48, end)
         }
-        Deed::Given => stepped(desk_in(rest), 2936, opened(number, b"desk\n", out)),
-        Deed::Shown => stepped(d, 48, shown(number, d, out)),
-        Deed::Bad => stepped(d, rest.len(), opened(number, b"bad record\n", out)),
+        Some(Deed::Given) => stepped(desk_in(rest), 2936, opened(number, b"desk\n", out)),
+        Some(Deed::Shown) => stepped(d, 48, shown(number, d, out)),
+        None => stepped(d, rest.len(), opened(number, b"bad record\n", out)),
     }
 }

@@ -1,20 +1,21 @@
 -- `transcript::steps::play` meets its contract: what each way of reading a record does. Assumes nothing.
+use Prim.Native.Nat.{ℕ}
 use mathlib.Core.Path.{sym, ap, ◌∙◌}
 use Rattle.text.proofs.Pieces.{said, behind}
 use Rattle.runs.specs.declared.Outcome.{Outcome}
 use Rattle.transcript.specs.declared.Step.{Step}
 use Rattle.turns.specs.declared.Turned.{Turned}
 use Rattle.call_lines.specs.Lines.{call_line}
-use Rattle.transcript.specs.Lines.{given_line, bad_line}
+use Rattle.transcript.specs.Lines.{turns_line, given_line, bad_line}
 use Rattle.transcript.specs.Steps.{desk_after, taken_by, turns_text, text_of}
 use Rattle.transcript.proofs.steps.play.Goals as goal
 
-pub returns-in-Asked : goal.returns-in-Asked
+pub returns-in-Some-Asked : goal.returns-in-Some-Asked
 unfolding desk_after taken_by text_of given_line bad_line
-returns-in-Asked c =
-    let e = c.in-Asked.ensures in
+returns-in-Some-Asked c =
+    let e = rw c.in-Some-Asked.field-0-is at c.in-Some-Asked.ensures in
     let a = c.args in
-    let call = c.in-Asked.call in
+    let call = c.in-Some-Asked.call in
     let r = c.stepped.ensures in (
       record {
         desk = ap (λ (s : Step). s.desk) r ∙ ap (λ (o : Outcome). o.desk) c.asked-o.ensures ∙ ap (desk_after a.rest.now a.d) e;
@@ -23,25 +24,25 @@ returns-in-Asked c =
       behind (sym (ap (λ (s : Step). s.end) r)) (said (ap (λ (o : Outcome). call_line a.number call o.answer) c.asked-o.ensures ∙ ap (text_of a.number a.d) e) c.told-end.ensures),
     )
 
-pub returns-in-Turns : goal.returns-in-Turns
+pub returns-in-Some-Turns : goal.returns-in-Some-Turns
 unfolding desk_after taken_by text_of given_line bad_line
-returns-in-Turns c =
-    let e = c.in-Turns.ensures in
+returns-in-Some-Turns c =
+    let e = rw c.in-Some-Turns.field-0-is at c.in-Some-Turns.ensures in
     let a = c.args in
-    let r = c.stepped-in-Turns.ensures in (
+    let r = c.stepped-in-Some-Turns.ensures in (
       record {
         desk = ap (λ (s : Step). s.desk) r ∙ ap (λ (t : Turned). t.desk) c.turns-t.ensures ∙ ap (desk_after a.rest.now a.d) e;
         taken = ap (λ (s : Step). s.taken) r ∙ ap (taken_by a.rest.now) e;
       },
-      behind (sym (ap (λ (s : Step). s.end) r)) (said (ap (turns_text a.number) c.turns-t.ensures ∙ ap (text_of a.number a.d) e) c.turned-end.ensures),
+      behind (sym (ap (λ (s : Step). s.end) r)) (said (ap (λ (n : ℕ). turns_line a.number n c.turns-t.result.halved c.turns-t.result.idle) c.number_if.ensures ∙ ap (turns_text a.number) c.turns-t.ensures ∙ ap (text_of a.number a.d) e) c.turned-end.ensures),
     )
 
-pub returns-in-Given : goal.returns-in-Given
+pub returns-in-Some-Given : goal.returns-in-Some-Given
 unfolding desk_after taken_by text_of given_line bad_line
-returns-in-Given c =
-    let e = c.in-Given.ensures in
+returns-in-Some-Given c =
+    let e = rw c.in-Some-Given.field-0-is at c.in-Some-Given.ensures in
     let a = c.args in
-    let r = c.stepped-in-Given.ensures in (
+    let r = c.stepped-in-Some-Given.ensures in (
       record {
         desk = ap (λ (s : Step). s.desk) r ∙ c.desk_in.ensures ∙ ap (desk_after a.rest.now a.d) e;
         taken = ap (λ (s : Step). s.taken) r ∙ ap (taken_by a.rest.now) e;
@@ -49,12 +50,12 @@ returns-in-Given c =
       behind (sym (ap (λ (s : Step). s.end) r)) (said (ap (text_of a.number a.d) e) c.opened.ensures),
     )
 
-pub returns-in-Shown : goal.returns-in-Shown
+pub returns-in-Some-Shown : goal.returns-in-Some-Shown
 unfolding desk_after taken_by text_of given_line bad_line
-returns-in-Shown c =
-    let e = c.in-Shown.ensures in
+returns-in-Some-Shown c =
+    let e = rw c.in-Some-Shown.field-0-is at c.in-Some-Shown.ensures in
     let a = c.args in
-    let r = c.stepped-in-Shown.ensures in (
+    let r = c.stepped-in-Some-Shown.ensures in (
       record {
         desk = ap (λ (s : Step). s.desk) r ∙ ap (desk_after a.rest.now a.d) e;
         taken = ap (λ (s : Step). s.taken) r ∙ ap (taken_by a.rest.now) e;
@@ -62,15 +63,15 @@ returns-in-Shown c =
       behind (sym (ap (λ (s : Step). s.end) r)) (said (ap (text_of a.number a.d) e) c.shown.ensures),
     )
 
-pub returns-in-Bad : goal.returns-in-Bad
+pub returns-in-None : goal.returns-in-None
 unfolding desk_after taken_by text_of given_line bad_line
-returns-in-Bad c =
-    let e = c.in-Bad.ensures in
+returns-in-None c =
+    let e = c.in-None.ensures in
     let a = c.args in
-    let r = c.stepped-in-Bad.ensures in (
+    let r = c.stepped-in-None.ensures in (
       record {
         desk = ap (λ (s : Step). s.desk) r ∙ ap (desk_after a.rest.now a.d) e;
         taken = ap (λ (s : Step). s.taken) r ∙ ap (taken_by a.rest.now) e;
       },
-      behind (sym (ap (λ (s : Step). s.end) r)) (said (ap (text_of a.number a.d) e) c.opened-in-Bad.ensures),
+      behind (sym (ap (λ (s : Step). s.end) r)) (said (ap (text_of a.number a.d) e) c.opened-in-None.ensures),
     )
