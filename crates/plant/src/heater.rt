@@ -5,8 +5,10 @@
 mod positions;
 
 use crate::model;
-use crate::model::{Asks, Known, Output};
+use crate::model::{Asks, Output};
 pub(crate) use positions::Place;
+use refusals::Refusal;
+use states::Single;
 
 // How many halvings settle a state that the heater asks for: rough ones will do, and come soon.
 pub(crate) const HALVINGS: u64 = 10;
@@ -86,28 +88,25 @@ fn given(place: Place) -> Option<Output> {
 }
 
 // Where the heater stands once this is known of a place: a refusal stops it.
-fn advanced(heater: Heater, place: Place, known: Known) -> Heater {
+fn advanced(heater: Heater, place: Place, known: Result<Single, Refusal>) -> Heater {
     let mut after = heater;
     match known {
-        Known::Refused(_) => after.waits_for = 0,
-        Known::State(single) => {
-            let properties = single.state;
-            match place {
-                Place::WaterIn => after.h_in = properties.h,
-                _ => after.waits_for = one_less(heater.waits_for),
-            }
-        }
+        Err(_) => after.waits_for = 0,
+        Ok(single) => match place {
+            Place::WaterIn => after.h_in = single.state.h,
+            _ => after.waits_for = heater.waits_for.saturating_sub(1),
+        },
     }
     after
 }
 
-// One state less to wait for.
-fn one_less(waits_for: u64) -> u64 {
-    if waits_for == 0 { 0 } else { waits_for - 1 }
-}
-
 // What the heater becomes when it is told of a place that it asked for; it writes its line.
-pub(crate) fn told(heater: Heater, place: Place, known: Known, room: &mut [u8]) -> Heater {
+pub(crate) fn told(
+    heater: Heater,
+    place: Place,
+    known: Result<Single, Refusal>,
+    room: &mut [u8],
+) -> Heater {
     let n = positions::title(place, room, heater.next_line);
     let mut after = advanced(heater, place, known);
     after.next_line = model::told(known, given(place), room, n);

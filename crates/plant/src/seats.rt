@@ -4,17 +4,20 @@
 ghost use Rattle.std.specs.Prelude.{◌<◌};
 
 use crate::heater::{Heater, Place};
-use crate::model::{Asks, Known};
+use crate::model::Asks;
 use crate::turbine::Turbine;
 use crate::{heater, turbine};
 use desk::Answer;
+use refusals::Refusal;
+use states::Single;
 
 // The numbers by which the desk knows the turbine and the heater.
 const TURBINE: u64 = 2;
 
 const HEATER: u64 = 5;
 
-// The desk's kinds of queries: by p in MPa and h in kJ/kg, and by p and s in kJ/(kg K).
+// The desk's kinds of queries, by the numbers that its calls take: by p in MPa and h in kJ/kg, and by p
+// and s in kJ/(kg K).
 const P_H: u64 = 2;
 
 const P_S: u64 = 3;
@@ -138,36 +141,34 @@ pub(crate) fn call_for(seats: Seats, seat: usize, step: Step) -> Option<Call>
     }
 }
 
-// What an answer tells: the state or the refusal's number, or nothing that concerns a model.
-fn heard_of(answer: Answer) -> Option<Known> {
+// What an answer tells: the state or the refusal, or nothing that concerns a model.
+fn heard_of(answer: Result<Answer, Refusal>) -> Option<Result<Single, Refusal>> {
     match answer {
-        Answer::State {
-            settled,
-            number: _,
-            lo: _,
-            hi: _,
-        } => {
-            let single = settled.single;
-            Some(Known::State(single))
-        }
-        Answer::Refused(number) => Some(Known::Refused(number)),
-        _ => None,
+        Ok(Answer::State { settled, .. }) => Some(Ok(settled.single)),
+        Ok(_) => None,
+        Err(refusal) => Some(Err(refusal)),
     }
 }
 
 // Keeps a seat's ticket, if that is the answer, for its collect.
-pub(crate) fn ticketed(seats: Seats, seat: usize, answer: Answer) -> Seats
+pub(crate) fn ticketed(seats: Seats, seat: usize, answer: Result<Answer, Refusal>) -> Seats
     requires { seat < 4 }
 {
     let mut after = seats;
-    if let Answer::Ticket(number) = answer {
+    if let Ok(Answer::Ticket(number)) = answer {
         after.tickets[seat] = number;
     }
     after
 }
 
 // Tells the model on a seat what is known of its query. Each model writes into a room of its own.
-fn told(seats: Seats, seat: usize, known: Known, room: &mut [u8], lines: &mut [u8]) -> Seats {
+fn told(
+    seats: Seats,
+    seat: usize,
+    known: Result<Single, Refusal>,
+    room: &mut [u8],
+    lines: &mut [u8],
+) -> Seats {
     let turbine = seats.turbine;
     let heater = seats.heater;
     let mut after = seats;
@@ -182,7 +183,7 @@ fn told(seats: Seats, seat: usize, known: Known, room: &mut [u8], lines: &mut [u
 pub(crate) fn answered(
     seats: Seats,
     seat: usize,
-    answer: Answer,
+    answer: Result<Answer, Refusal>,
     room: &mut [u8],
     lines: &mut [u8],
 ) -> Seats {

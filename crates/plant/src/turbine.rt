@@ -4,8 +4,9 @@
 mod positions;
 
 use crate::model;
-use crate::model::{Asks, Known, Output};
+use crate::model::{Asks, Output};
 use crate::turbine::positions::Place;
+use refusals::Refusal;
 use states::Single;
 
 // How many halvings settle a state that the turbine asks for: its shaft power wants fine ones.
@@ -172,7 +173,7 @@ fn counted(turbine: Turbine) -> Turbine {
 fn line(
     turbine: Turbine,
     place: Place,
-    known: Known,
+    known: Result<Single, Refusal>,
     given: Option<Output>,
     room: &mut [u8],
 ) -> usize {
@@ -181,16 +182,10 @@ fn line(
 }
 
 // The turbine stops at a refusal, and says so.
-fn refused(turbine: Turbine, place: Place, number: u64, room: &mut [u8]) -> Turbine {
+fn refused(turbine: Turbine, place: Place, refusal: Refusal, room: &mut [u8]) -> Turbine {
     let mut after = turbine;
     after.runs = false;
-    after.next_line = line(
-        turbine,
-        place,
-        Known::Refused(number),
-        None,
-        room,
-    );
+    after.next_line = line(turbine, place, Err(refusal), None, room);
     after
 }
 
@@ -198,7 +193,7 @@ fn refused(turbine: Turbine, place: Place, number: u64, room: &mut [u8]) -> Turb
 fn settled(turbine: Turbine, place: Place, single: Single, room: &mut [u8]) -> Turbine {
     let given = given(turbine, place, single);
     let mut after = counted(advanced(turbine, place, single));
-    after.next_line = line(turbine, place, Known::State(single), given, room);
+    after.next_line = line(turbine, place, Ok(single), given, room);
     after.next_bits = model::bits(single, room, turbine.next_bits);
     after
 }
@@ -215,11 +210,11 @@ fn summed_up(turbine: Turbine, room: &mut [u8]) -> Turbine {
 }
 
 // What the turbine becomes when it is told of what it asked for.
-pub(crate) fn told(turbine: Turbine, known: Known, room: &mut [u8]) -> Turbine {
+pub(crate) fn told(turbine: Turbine, known: Result<Single, Refusal>, room: &mut [u8]) -> Turbine {
     let place = place_after(turbine.settled);
     match known {
-        Known::Refused(number) => refused(turbine, place, number, room),
-        Known::State(single) => summed_up(settled(turbine, place, single, room), room),
+        Err(refusal) => refused(turbine, place, refusal, room),
+        Ok(single) => summed_up(settled(turbine, place, single, room), room),
     }
 }
 

@@ -1,5 +1,7 @@
 // What a model asks for and what it is told: queries and states, in the units of steam. Where a query
 // goes, who else asks and when it is settled is nothing that a model is told.
+use refusals::Refusal;
+use reply::Answer;
 use states::Single;
 
 // What a model asks next: the state at p in MPa and h in kJ/kg, or at p and s in kJ/(kg K). It asks
@@ -10,19 +12,10 @@ pub(crate) enum Asks {
     ByEntropy { p: f64, s: f64 },
 }
 
-// What a model is told: the state that it asked for, of one phase, or the refusal's number.
-#[derive(Clone, Copy)]
-pub(crate) enum Known {
-    State(Single),
-    Refused(u64),
-}
-
 // The state at p in MPa and t in K, asked for directly. A (p,T) query is never wet.
-pub(crate) fn ask(p: f64, t: f64) -> Known {
-    let answer = sums::from_pt(p, t);
-    match answer {
-        reply::Answer::Single(a) => Known::State(a),
-        reply::Answer::Wet(_) => Known::Refused(8),
-        reply::Answer::Refused(n) => Known::Refused(n),
+pub(crate) fn ask(p: f64, t: f64) -> Result<Single, Refusal> {
+    match sums::from_pt(p, t)? {
+        Answer::Single(a) => Ok(a),
+        Answer::Wet(_) => Err(Refusal::WetOrSingular),
     }
 }

@@ -1,8 +1,7 @@
 // The lines of a model, written into a room behind what the model calls a place: the state there, and
 // what the model makes of it. Units for people: MPa, degC, kJ/kg, MW.
-use crate::model::asking::Known;
+use refusals::Refusal;
 use states::Single;
-use text::Cell;
 
 // How many kW make one MW.
 pub(crate) const KW_IN_MW: f64 = 1000.0;
@@ -41,15 +40,20 @@ fn ending(given: Option<Output>, out: &mut [u8], at: usize) -> usize {
 }
 
 // The line of a place behind its title: the state there and what is given off, or the refusal's number.
-pub(crate) fn told(known: Known, given: Option<Output>, out: &mut [u8], at: usize) -> usize {
+pub(crate) fn told(
+    known: Result<Single, Refusal>,
+    given: Option<Output>,
+    out: &mut [u8],
+    at: usize,
+) -> usize {
     match known {
-        Known::State(a) => {
+        Ok(a) => {
             let n = properties(a, out, at);
             ending(given, out, n)
         }
-        Known::Refused(number) => {
+        Err(refusal) => {
             let n = text::bytes(b"refused ", out, at);
-            text::decimal(number, b'\n', out, n)
+            text::decimal(refusal.number(), b'\n', out, n)
         }
     }
 }
@@ -57,12 +61,12 @@ pub(crate) fn told(known: Known, given: Option<Output>, out: &mut [u8], at: usiz
 // Every bit of a state: p, T, v, u, h, s, cp and w in hexadecimal.
 pub(crate) fn bits(a: Single, out: &mut [u8], at: usize) -> usize {
     let b = a.state;
-    let n = text::column(Cell::Value(a.p), b' ', out, at);
-    let n = text::column(Cell::Value(a.t), b' ', out, n);
-    let n = text::column(Cell::Value(b.v), b' ', out, n);
-    let n = text::column(Cell::Value(b.u), b' ', out, n);
-    let n = text::column(Cell::Value(b.h), b' ', out, n);
-    let n = text::column(Cell::Value(b.s), b' ', out, n);
-    let n = text::column(Cell::Value(b.cp), b' ', out, n);
-    text::column(Cell::Value(b.w), b'\n', out, n)
+    let n = text::column(Some(a.p), b' ', out, at);
+    let n = text::column(Some(a.t), b' ', out, n);
+    let n = text::column(Some(b.v), b' ', out, n);
+    let n = text::column(Some(b.u), b' ', out, n);
+    let n = text::column(Some(b.h), b' ', out, n);
+    let n = text::column(Some(b.s), b' ', out, n);
+    let n = text::column(Some(b.cp), b' ', out, n);
+    text::column(Some(b.w), b'\n', out, n)
 }
