@@ -19,12 +19,6 @@ use Rattle.hot.proofs.region5.Region5Basic.s.Kinds as s_5_kinds
 use Rattle.hot.proofs.region5.Region5Basic.s.Reads as s_5
 use Rattle.hot.proofs.region5.Region5Parts.shifted.Kinds as shifted_5_kinds
 use Rattle.hot.proofs.region5.Region5Parts.shifted.Reads as shifted_5
-use Rattle.hot.proofs.region5.Region5Basic.gamma_at.Kinds as gamma_at_5_kinds
-use Rattle.hot.proofs.region5.Region5Basic.gamma_at.Reads as gamma_at_5
-use Rattle.hot.proofs.region5.Region5Basic.h_at.Kinds as h_at_5_kinds
-use Rattle.hot.proofs.region5.Region5Basic.h_at.Reads as h_at_5
-use Rattle.hot.proofs.region5.Region5Basic.s_at.Kinds as s_at_5_kinds
-use Rattle.hot.proofs.region5.Region5Basic.s_at.Reads as s_at_5
 use Rattle.hot.proofs.region5.Region5Basic.unrooted.Kinds as unrooted_5_kinds
 use Rattle.hot.proofs.region5.Region5Basic.unrooted.Reads as unrooted_5
 
@@ -54,15 +48,6 @@ s_5_only κs a x y s t p q = p ∙ sym q
 
 pub shifted_5_only : Only 0 shifted_5_kinds.ps shifted_5_kinds.r shifted_5.Post
 shifted_5_only κs a x y s t p q = p ∙ sym q
-
-pub gamma_at_5_only : Only 0 gamma_at_5_kinds.ps gamma_at_5_kinds.r gamma_at_5.Post
-gamma_at_5_only κs a x y s t p q = p ∙ sym q
-
-pub h_at_5_only : Only 0 h_at_5_kinds.ps h_at_5_kinds.r h_at_5.Post
-h_at_5_only κs a x y s t p q = p ∙ sym q
-
-pub s_at_5_only : Only 0 s_at_5_kinds.ps s_at_5_kinds.r s_at_5.Post
-s_at_5_only κs a x y s t p q = p ∙ sym q
 
 pub unrooted_5_only : Only 0 unrooted_5_kinds.ps unrooted_5_kinds.r unrooted_5.Post
 unrooted_5_only κs a x y s t p q = p ∙ sym q

@@ -3,15 +3,11 @@ use Rattle.std.specs.Prelude.{◌≡◌, refl, Float}
 use Rattle.properties.specs.Properties.{reduced_by}
 use Rattle.vapour.specs.Vapour.{vapour_unrooted, vapour_response}
 use Rattle.vapour.specs.declared.Vapour.{Vapour}
-use Rattle.hot.specs.Region5.{gas_constant5, reducing_pressure5, reducing_temperature5, vapour_at5, point5, gamma5, unrooted_of5, response_of5}
+use Rattle.hot.specs.Region5.{gas_constant5, reducing_pressure5, reducing_temperature5, point5, unrooted_of5, response_of5}
 
 pub points5 : (p t : Float) → point5 p t ≡ reduced_by gas_constant5 reducing_pressure5 reducing_temperature5 p t
 unfolding point5
 points5 p t = refl
-
-pub gammas5 : (p t : Float) → gamma5 p t ≡ vapour_at5 (point5 p t)
-unfolding gamma5
-gammas5 p t = refl
 
 pub properties5 : (p t : Float) (g : Vapour) → unrooted_of5 p t g ≡ vapour_unrooted (point5 p t) g
 unfolding unrooted_of5

@@ -51,13 +51,9 @@ point5 p t = reduced_by gas_constant5 reducing_pressure5 reducing_temperature5 p
 abbrev pub shifted5 : Float → Float
 shifted5 τ = τ
 
--- Eqs. (32) to (34), at a point
-abbrev pub vapour_at5 : Point → Vapour
-vapour_at5 x = vapour_at ideal5 residual5 shifted5 x
-
--- and at p and T
+-- Eqs. (32) to (34)
 unfoldable pub gamma5 : Float → Float → Vapour
-gamma5 p t = vapour_at5 (point5 p t)
+gamma5 p t = vapour_at ideal5 residual5 shifted5 (point5 p t)
 
 -- 002, Table 4
 unfoldable pub unrooted_of5 : Float → Float → Vapour → Unrooted

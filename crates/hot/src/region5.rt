@@ -1,9 +1,9 @@
 // Region 5, vapour above 1073.15 K: R7-97, Eqs. (32) to (34), Tables 37 and 38 (specs/Region5.antt). The
 // formulas are those of crate vapour.
-ghost use Rattle.hot.specs.Region5.{gas_constant5, reducing_pressure5, reducing_temperature5, ideal5, residual5, shifted5, vapour_at5, point5, gamma5, unrooted_of5, response_of5};
-ghost use Rattle.hot.specs.Laws.{points5, gammas5, properties5, responses5};
+ghost use Rattle.hot.specs.Region5.{gas_constant5, reducing_pressure5, reducing_temperature5, ideal5, residual5, shifted5, point5, gamma5, unrooted_of5, response_of5};
+ghost use Rattle.hot.specs.Laws.{points5, properties5, responses5};
 
-use properties::{Basic, Point};
+use properties::Basic;
 use terms::Table;
 use vapour::{Parts, Vapour, gamma_at, h_at, s_at};
 
@@ -71,8 +71,6 @@ impl Basic for Region5 {
 
     ghost T = { reducing_temperature5 };
 
-    ghost gamma_at = { vapour_at5 };
-
     ghost point = { point5 };
 
     ghost gamma = { gamma5 };
@@ -81,21 +79,22 @@ impl Basic for Region5 {
 
     ghost response_of = { response_of5 };
 
-    fn gamma_at(x: Point) -> Vapour {
-        gamma_at::<Self>(x)
+    #[tactic(auto, unfolding(crate::specs::Region5::gamma5))]
+    fn gamma(p: f64, t: f64) -> Vapour {
+        gamma_at::<Self>(Self::point(p, t))
     }
 
-    fn h_at(x: Point) -> f64 {
-        h_at::<Self>(x)
+    #[tactic(auto, unfolding(crate::specs::Region5::gamma5, crate::specs::Region5::unrooted_of5))]
+    fn h(p: f64, t: f64) -> f64 {
+        h_at::<Self>(Self::point(p, t))
     }
 
-    fn s_at(x: Point) -> f64 {
-        s_at::<Self>(x)
+    #[tactic(auto, unfolding(crate::specs::Region5::gamma5, crate::specs::Region5::unrooted_of5))]
+    fn s(p: f64, t: f64) -> f64 {
+        s_at::<Self>(Self::point(p, t))
     }
 
     ghost points = { points5 };
-
-    ghost gammas = { gammas5 };
 
     ghost properties = { properties5 };
 

@@ -17,12 +17,6 @@ use Rattle.liquid.proofs.region1.Region1Basic.h.Kinds as h_1_kinds
 use Rattle.liquid.proofs.region1.Region1Basic.h.Reads as h_1
 use Rattle.liquid.proofs.region1.Region1Basic.s.Kinds as s_1_kinds
 use Rattle.liquid.proofs.region1.Region1Basic.s.Reads as s_1
-use Rattle.liquid.proofs.region1.Region1Basic.gamma_at.Kinds as gamma_at_1_kinds
-use Rattle.liquid.proofs.region1.Region1Basic.gamma_at.Reads as gamma_at_1
-use Rattle.liquid.proofs.region1.Region1Basic.h_at.Kinds as h_at_1_kinds
-use Rattle.liquid.proofs.region1.Region1Basic.h_at.Reads as h_at_1
-use Rattle.liquid.proofs.region1.Region1Basic.s_at.Kinds as s_at_1_kinds
-use Rattle.liquid.proofs.region1.Region1Basic.s_at.Reads as s_at_1
 use Rattle.liquid.proofs.region1.LiquidGamma.unrooted.Kinds as liquid_unrooted_kinds
 use Rattle.liquid.proofs.region1.LiquidGamma.unrooted.Reads as liquid_unrooted
 use Rattle.liquid.proofs.region1.LiquidGamma.response.Kinds as liquid_response_kinds
@@ -53,15 +47,6 @@ h_1_only κs a x y s t p q = p ∙ sym q
 
 pub s_1_only : Only 0 s_1_kinds.ps s_1_kinds.r s_1.Post
 s_1_only κs a x y s t p q = p ∙ sym q
-
-pub gamma_at_1_only : Only 0 gamma_at_1_kinds.ps gamma_at_1_kinds.r gamma_at_1.Post
-gamma_at_1_only κs a x y s t p q = p ∙ sym q
-
-pub h_at_1_only : Only 0 h_at_1_kinds.ps h_at_1_kinds.r h_at_1.Post
-h_at_1_only κs a x y s t p q = p ∙ sym q
-
-pub s_at_1_only : Only 0 s_at_1_kinds.ps s_at_1_kinds.r s_at_1.Post
-s_at_1_only κs a x y s t p q = p ∙ sym q
 
 pub liquid_unrooted_only : Only 0 liquid_unrooted_kinds.ps liquid_unrooted_kinds.r liquid_unrooted.Post
 liquid_unrooted_only κs a x y s t p q = p ∙ sym q

@@ -4,6 +4,8 @@ use Rattle.std.specs.Float.Ieee.{neg}
 use Rattle.arith.specs.F64.{f64, ◌⊖◌, ◌⊗◌, ◌⊘◌}
 use Rattle.arith.specs.Printed.{less, printed}
 use Rattle.terms.specs.Sum.{Term, row, sum_of}
+use Rattle.terms.specs.Six.{six_of}
+use Rattle.terms.specs.declared.Six.{Six}
 use Rattle.arith.specs.Coefficients.{plus, minus}
 use Rattle.properties.specs.Properties.{reduced_by, unrooted_of, rooted_of}
 use Rattle.properties.specs.declared.State.{State}
@@ -75,13 +77,15 @@ B1 x = x.tau ⊖ printed false 1222 (less 3)
 unfoldable pub sum1 : Point → ℕ → ℕ → Float
 sum1 x da db = sum_of table1 da db (A1 x) (B1 x)
 
--- Eq. (15) and Table 3 at a point: the inner sign of 7.1 - π negates the finished sum once for each derivative by π, so γππ twice, which leaves it as it is
-abbrev pub liquid_at : Point → Liquid
-liquid_at x = record { g = sum1 x 0 0; gp = neg (sum1 x 1 0); gpp = sum1 x 2 0; gt = sum1 x 0 1; gtt = sum1 x 0 2; gpt = neg (sum1 x 1 1) }
+-- all six of them
+abbrev pub six1 : Point → Six
+six1 x = six_of table1 (A1 x) (B1 x)
 
--- and at p and T
+-- Eq. (15) and Table 3: the inner sign of 7.1 - π negates the finished sum once for each derivative by π, so γππ twice, which leaves it as it is
 unfoldable pub gamma1 : Float → Float → Liquid
-gamma1 p t = liquid_at (point1 p t)
+gamma1 p t =
+    let x = point1 p t in
+    record { g = sum1 x 0 0; gp = neg (sum1 x 1 0); gpp = sum1 x 2 0; gt = sum1 x 0 1; gtt = sum1 x 0 2; gpt = neg (sum1 x 1 1) }
 
 -- Table 2. w²/RT = γπ² / ((γπ - τ·γπτ)² / (τ²·γττ) - γππ)
 abbrev pub liquid_unrooted : Point → Liquid → Unrooted

@@ -1,11 +1,11 @@
 // Region 1, liquid water: 002, Eq. (15), Tables 2, 3 and A2 (specs/Region1.antt).
 ghost use Rattle.std.specs.Prelude.{◌≡◌};
-ghost use Rattle.liquid.specs.Region1.{gas_constant1, reducing_pressure1, reducing_temperature1, liquid_at, liquid_unrooted, liquid_response, point1, gamma1, unrooted_of1, response_of1};
-ghost use Rattle.liquid.specs.Laws.{points1, gammas1, properties1, responses1};
+ghost use Rattle.liquid.specs.Region1.{sum1, six1, gas_constant1, reducing_pressure1, reducing_temperature1, liquid_unrooted, liquid_response, point1, gamma1, unrooted_of1, response_of1};
+ghost use Rattle.liquid.specs.Laws.{points1, properties1, responses1};
 
 use crate::Liquid;
 use properties::{Basic, Gamma, Point, Response, Unrooted, enthalpy, entropy, from_gamma};
-use terms::Table;
+use terms::{Six, Table};
 
 const TABLE: Table<'static> = Table {
     i: &[
@@ -59,6 +59,26 @@ const PI_SHIFT: f64 = 7.1;
 
 const TAU_SHIFT: f64 = 1.222;
 
+// What gamma, h and s take of the sum of Eq. (15), each its own: the compiler places a walk in line where it
+// is called once, and leaves out what is not taken.
+fn six(x: Point) -> Six
+    ensures { result ≡ six1 x }
+{
+    TABLE.six(PI_SHIFT - x.pi, x.tau - TAU_SHIFT)
+}
+
+fn slope(x: Point) -> f64
+    ensures { result ≡ sum1 x 0 1 }
+{
+    TABLE.slope_by_b(PI_SHIFT - x.pi, x.tau - TAU_SHIFT)
+}
+
+fn both(x: Point) -> Six
+    ensures { result ≡ six1 x }
+{
+    TABLE.six(PI_SHIFT - x.pi, x.tau - TAU_SHIFT)
+}
+
 impl Gamma for Liquid {
     ghost unrooted_at = { liquid_unrooted };
 
@@ -96,8 +116,6 @@ impl Basic for Region1 {
 
     ghost T = { reducing_temperature1 };
 
-    ghost gamma_at = { liquid_at };
-
     ghost point = { point1 };
 
     ghost gamma = { gamma1 };
@@ -106,10 +124,9 @@ impl Basic for Region1 {
 
     ghost response_of = { response_of1 };
 
-    // Each derivative by π turns the sign of the sum in 7.1 - π. gamma_at, h_at and s_at each call the walk:
-    // the compiler places it in line where it is called once, and leaves out what is not taken.
-    fn gamma_at(x: Point) -> Liquid {
-        let s = TABLE.six(PI_SHIFT - x.pi, x.tau - TAU_SHIFT);
+    // Each derivative by π turns the sign of the sum in 7.1 - π.
+    fn gamma(p: f64, t: f64) -> Liquid {
+        let s = six(Self::point(p, t));
         Liquid {
             g: s.f,
             gp: -s.fa,
@@ -120,19 +137,20 @@ impl Basic for Region1 {
         }
     }
 
-    fn h_at(x: Point) -> f64 {
-        let slope = TABLE.slope_by_b(PI_SHIFT - x.pi, x.tau - TAU_SHIFT);
-        enthalpy(x, slope)
+    #[tactic(auto, unfolding(crate::specs::Region1::gamma1, crate::specs::Region1::unrooted_of1, properties::specs::Properties::unrooted_of))]
+    fn h(p: f64, t: f64) -> f64 {
+        let x = Self::point(p, t);
+        enthalpy(x, slope(x))
     }
 
-    fn s_at(x: Point) -> f64 {
-        let s = TABLE.six(PI_SHIFT - x.pi, x.tau - TAU_SHIFT);
+    #[tactic(auto, unfolding(crate::specs::Region1::gamma1, crate::specs::Region1::sum1, crate::specs::Region1::unrooted_of1, properties::specs::Properties::unrooted_of, terms::specs::Six::six_of))]
+    fn s(p: f64, t: f64) -> f64 {
+        let x = Self::point(p, t);
+        let s = both(x);
         entropy(x, s.f, s.fb)
     }
 
     ghost points = { points1 };
-
-    ghost gammas = { gammas1 };
 
     ghost properties = { properties1 };
 

@@ -13,8 +13,6 @@ use Rattle.properties.proofs.gibbs.rooted.Kinds as rooted_kinds
 use Rattle.properties.proofs.gibbs.rooted.Reads as rooted
 use Rattle.properties.proofs.basic.Basic.point.Kinds as basic_point_kinds
 use Rattle.properties.proofs.basic.Basic.point.Reads as basic_point
-use Rattle.properties.proofs.basic.Basic.gamma.Kinds as basic_gamma_kinds
-use Rattle.properties.proofs.basic.Basic.gamma.Reads as basic_gamma
 use Rattle.properties.proofs.basic.Basic.unrooted_of.Kinds as basic_unrooted_of_kinds
 use Rattle.properties.proofs.basic.Basic.unrooted_of.Reads as basic_unrooted_of
 use Rattle.properties.proofs.basic.Basic.unrooted.Kinds as basic_unrooted_kinds
@@ -25,10 +23,6 @@ use Rattle.properties.proofs.basic.Basic.state.Kinds as basic_state_kinds
 use Rattle.properties.proofs.basic.Basic.state.Reads as basic_state
 use Rattle.properties.proofs.basic.Basic.response_of.Kinds as basic_response_of_kinds
 use Rattle.properties.proofs.basic.Basic.response_of.Reads as basic_response_of
-use Rattle.properties.proofs.basic.Basic.h.Kinds as basic_h_kinds
-use Rattle.properties.proofs.basic.Basic.h.Reads as basic_h
-use Rattle.properties.proofs.basic.Basic.s.Kinds as basic_s_kinds
-use Rattle.properties.proofs.basic.Basic.s.Reads as basic_s
 
 pub reduced_only : Only 0 reduced_kinds.ps reduced_kinds.r reduced.Post
 reduced_only κs a x y s t p q = p ∙ sym q
@@ -49,9 +43,6 @@ rooted_only κs a x y s t p q = p ∙ sym q
 pub basic_point_only : (B : _) (G : _) (laws : _) (gammas : _) (copy : _) (basic : _) (d : _) (gamma : _) (e : _) (clone : _) (f : _) → Only 2 (basic_point_kinds.ps B G laws gammas copy) (basic_point_kinds.r B G laws gammas copy) (basic_point.Post B G laws gammas copy basic d gamma e clone f)
 basic_point_only B G laws gammas copy basic d gamma e clone f κs a x y t u p q = p ∙ sym q
 
-pub basic_gamma_only : (B : _) (G : _) (laws : _) (gammas : _) (copy : _) (basic : _) (d : _) (gamma : _) (e : _) (clone : _) (f : _) → Only 2 (basic_gamma_kinds.ps B G laws gammas copy) (basic_gamma_kinds.r B G laws gammas copy) (basic_gamma.Post B G laws gammas copy basic d gamma e clone f)
-basic_gamma_only B G laws gammas copy basic d gamma e clone f κs a x y t u p q = p ∙ sym q
-
 pub basic_unrooted_of_only : (B : _) (G : _) (laws : _) (gammas : _) (copy : _) (basic : _) (d : _) (gamma : _) (e : _) (clone : _) (f : _) → Only 2 (basic_unrooted_of_kinds.ps B G laws gammas copy) (basic_unrooted_of_kinds.r B G laws gammas copy) (basic_unrooted_of.Post B G laws gammas copy basic d gamma e clone f)
 basic_unrooted_of_only B G laws gammas copy basic d gamma e clone f κs a x y t u p q = p ∙ sym q
 
@@ -66,9 +57,3 @@ basic_state_only B G laws gammas copy basic d gamma e clone f κs a x y t u p q 
 
 pub basic_response_of_only : (B : _) (G : _) (laws : _) (gammas : _) (copy : _) (basic : _) (d : _) (gamma : _) (e : _) (clone : _) (f : _) → Only 2 (basic_response_of_kinds.ps B G laws gammas copy) (basic_response_of_kinds.r B G laws gammas copy) (basic_response_of.Post B G laws gammas copy basic d gamma e clone f)
 basic_response_of_only B G laws gammas copy basic d gamma e clone f κs a x y t u p q = p ∙ sym q
-
-pub basic_h_only : (B : _) (G : _) (laws : _) (gammas : _) (copy : _) (basic : _) (d : _) (gamma : _) (e : _) (clone : _) (f : _) → Only 2 (basic_h_kinds.ps B G laws gammas copy) (basic_h_kinds.r B G laws gammas copy) (basic_h.Post B G laws gammas copy basic d gamma e clone f)
-basic_h_only B G laws gammas copy basic d gamma e clone f κs a x y t u p q = p ∙ sym q
-
-pub basic_s_only : (B : _) (G : _) (laws : _) (gammas : _) (copy : _) (basic : _) (d : _) (gamma : _) (e : _) (clone : _) (f : _) → Only 2 (basic_s_kinds.ps B G laws gammas copy) (basic_s_kinds.r B G laws gammas copy) (basic_s.Post B G laws gammas copy basic d gamma e clone f)
-basic_s_only B G laws gammas copy basic d gamma e clone f κs a x y t u p q = p ∙ sym q

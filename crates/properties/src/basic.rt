@@ -42,8 +42,6 @@ pub trait Basic {
 
     ghost T: { Float };
 
-    ghost gamma_at: { Point → Self.Gamma };
-
     // What the equation gives at p and T.
     ghost point: { Float → Float → Point };
 
@@ -53,30 +51,23 @@ pub trait Basic {
 
     ghost response_of: { Float → Float → Self.Gamma → Response };
 
-    // γ and its derivatives at a point.
-    fn gamma_at(x: Point) -> Self::Gamma
-        ensures { result ≡ gamma_at x };
+    // γ and its derivatives.
+    fn gamma(p: f64, t: f64) -> Self::Gamma
+        ensures { result ≡ gamma p t };
 
-    // The enthalpy in kJ/kg at a point, from the sums that it needs.
-    fn h_at(x: Point) -> f64
-        ensures { result ≡ (Self.Gamma.unrooted_at x (gamma_at x)).h };
+    // The enthalpy in kJ/kg, from the sums that it needs.
+    fn h(p: f64, t: f64) -> f64
+        ensures { result ≡ (unrooted_of p t (gamma p t)).h };
 
-    // The entropy in kJ/(kg K) at a point, from the sums that it needs.
-    fn s_at(x: Point) -> f64
-        ensures { result ≡ (Self.Gamma.unrooted_at x (gamma_at x)).s };
+    // The entropy in kJ/(kg K), from the sums that it needs.
+    fn s(p: f64, t: f64) -> f64
+        ensures { result ≡ (unrooted_of p t (gamma p t)).s };
 
     // π and τ, beside what they are made of.
     fn point(p: f64, t: f64) -> Point
         ensures { result ≡ point p t }
     {
         reduced(Self::R, Self::P, Self::T, p, t)
-    }
-
-    // γ and its derivatives.
-    fn gamma(p: f64, t: f64) -> Self::Gamma
-        ensures { result ≡ gamma p t }
-    {
-        Self::gamma_at(Self::point(p, t))
     }
 
     // The six properties with w squared, from what gamma gave for p and t.
@@ -114,24 +105,8 @@ pub trait Basic {
         g.response(Self::point(p, t))
     }
 
-    // The enthalpy in kJ/kg.
-    fn h(p: f64, t: f64) -> f64
-        ensures { result ≡ (unrooted_of p t (gamma p t)).h }
-    {
-        Self::h_at(Self::point(p, t))
-    }
-
-    // The entropy in kJ/(kg K).
-    fn s(p: f64, t: f64) -> f64
-        ensures { result ≡ (unrooted_of p t (gamma p t)).s }
-    {
-        Self::s_at(Self::point(p, t))
-    }
-
-    // What it gives at p and T is what it gives at their point.
+    // Its point is by its constants, and of a γ it makes what that makes at the point.
     ghost points: { (p t : Float) → point p t ≡ reduced_by R P T p t };
-
-    ghost gammas: { (p t : Float) → gamma p t ≡ gamma_at (point p t) };
 
     ghost properties: { (p t : Float) (g : Self.Gamma) → unrooted_of p t g ≡ Self.Gamma.unrooted_at (point p t) g };
 

@@ -48,6 +48,7 @@ pub fn from_gamma(x: Point, g: f64, gp: f64, gt: f64, gtt: f64, quotient: f64) -
 }
 
 // The six properties, w by its root.
+#[tactic(auto, unfolding(crate::specs::Properties::rooted_of))]
 pub fn rooted(a: Unrooted) -> State
     ensures { result ≡ rooted_of a }
 {

@@ -19,12 +19,6 @@ use Rattle.steam.proofs.region2.Region2Basic.s.Kinds as s_2_kinds
 use Rattle.steam.proofs.region2.Region2Basic.s.Reads as s_2
 use Rattle.steam.proofs.region2.Region2Parts.shifted.Kinds as shifted_2_kinds
 use Rattle.steam.proofs.region2.Region2Parts.shifted.Reads as shifted_2
-use Rattle.steam.proofs.region2.Region2Basic.gamma_at.Kinds as gamma_at_2_kinds
-use Rattle.steam.proofs.region2.Region2Basic.gamma_at.Reads as gamma_at_2
-use Rattle.steam.proofs.region2.Region2Basic.h_at.Kinds as h_at_2_kinds
-use Rattle.steam.proofs.region2.Region2Basic.h_at.Reads as h_at_2
-use Rattle.steam.proofs.region2.Region2Basic.s_at.Kinds as s_at_2_kinds
-use Rattle.steam.proofs.region2.Region2Basic.s_at.Reads as s_at_2
 use Rattle.steam.proofs.region2.Region2Basic.unrooted.Kinds as unrooted_2_kinds
 use Rattle.steam.proofs.region2.Region2Basic.unrooted.Reads as unrooted_2
 
@@ -54,15 +48,6 @@ s_2_only κs a x y s t p q = p ∙ sym q
 
 pub shifted_2_only : Only 0 shifted_2_kinds.ps shifted_2_kinds.r shifted_2.Post
 shifted_2_only κs a x y s t p q = p ∙ sym q
-
-pub gamma_at_2_only : Only 0 gamma_at_2_kinds.ps gamma_at_2_kinds.r gamma_at_2.Post
-gamma_at_2_only κs a x y s t p q = p ∙ sym q
-
-pub h_at_2_only : Only 0 h_at_2_kinds.ps h_at_2_kinds.r h_at_2.Post
-h_at_2_only κs a x y s t p q = p ∙ sym q
-
-pub s_at_2_only : Only 0 s_at_2_kinds.ps s_at_2_kinds.r s_at_2.Post
-s_at_2_only κs a x y s t p q = p ∙ sym q
 
 pub unrooted_2_only : Only 0 unrooted_2_kinds.ps unrooted_2_kinds.r unrooted_2.Post
 unrooted_2_only κs a x y s t p q = p ∙ sym q

@@ -3,15 +3,11 @@ use Rattle.std.specs.Prelude.{◌≡◌, refl, Float}
 use Rattle.properties.specs.Properties.{reduced_by}
 use Rattle.vapour.specs.Vapour.{vapour_unrooted, vapour_response}
 use Rattle.vapour.specs.declared.Vapour.{Vapour}
-use Rattle.steam.specs.Region2.{gas_constant2, reducing_pressure2, reducing_temperature2, vapour_at2, point2, gamma2, unrooted_of2, response_of2}
+use Rattle.steam.specs.Region2.{gas_constant2, reducing_pressure2, reducing_temperature2, point2, unrooted_of2, response_of2}
 
 pub points2 : (p t : Float) → point2 p t ≡ reduced_by gas_constant2 reducing_pressure2 reducing_temperature2 p t
 unfolding point2
 points2 p t = refl
-
-pub gammas2 : (p t : Float) → gamma2 p t ≡ vapour_at2 (point2 p t)
-unfolding gamma2
-gammas2 p t = refl
 
 pub properties2 : (p t : Float) (g : Vapour) → unrooted_of2 p t g ≡ vapour_unrooted (point2 p t) g
 unfolding unrooted_of2

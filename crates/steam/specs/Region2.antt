@@ -91,13 +91,9 @@ point2 p t = reduced_by gas_constant2 reducing_pressure2 reducing_temperature2 p
 abbrev pub shifted2 : Float → Float
 shifted2 τ = τ ⊖ printed false 5 (less 1)
 
--- Eqs. (19) to (21), at a point
-abbrev pub vapour_at2 : Point → Vapour
-vapour_at2 x = vapour_at ideal2 residual2 shifted2 x
-
--- and at p and T
+-- Eqs. (19) to (21)
 unfoldable pub gamma2 : Float → Float → Vapour
-gamma2 p t = vapour_at2 (point2 p t)
+gamma2 p t = vapour_at ideal2 residual2 shifted2 (point2 p t)
 
 -- Table 4
 unfoldable pub unrooted_of2 : Float → Float → Vapour → Unrooted

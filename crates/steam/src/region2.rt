@@ -1,9 +1,9 @@
 // Region 2, vapour up to 1073.15 K: 002, Eqs. (19) to (21), Tables A4 and A5
 // (specs/Region2.antt). The formulas are those of crate vapour.
-ghost use Rattle.steam.specs.Region2.{gas_constant2, reducing_pressure2, reducing_temperature2, ideal2, residual2, shifted2, vapour_at2, point2, gamma2, unrooted_of2, response_of2};
-ghost use Rattle.steam.specs.Laws.{points2, gammas2, properties2, responses2};
+ghost use Rattle.steam.specs.Region2.{gas_constant2, reducing_pressure2, reducing_temperature2, ideal2, residual2, shifted2, point2, gamma2, unrooted_of2, response_of2};
+ghost use Rattle.steam.specs.Laws.{points2, properties2, responses2};
 
-use properties::{Basic, Point};
+use properties::Basic;
 use terms::Table;
 use vapour::{Parts, Vapour, gamma_at, h_at, s_at};
 
@@ -120,8 +120,6 @@ impl Basic for Region2 {
 
     ghost T = { reducing_temperature2 };
 
-    ghost gamma_at = { vapour_at2 };
-
     ghost point = { point2 };
 
     ghost gamma = { gamma2 };
@@ -130,21 +128,22 @@ impl Basic for Region2 {
 
     ghost response_of = { response_of2 };
 
-    fn gamma_at(x: Point) -> Vapour {
-        gamma_at::<Self>(x)
+    #[tactic(auto, unfolding(crate::specs::Region2::gamma2))]
+    fn gamma(p: f64, t: f64) -> Vapour {
+        gamma_at::<Self>(Self::point(p, t))
     }
 
-    fn h_at(x: Point) -> f64 {
-        h_at::<Self>(x)
+    #[tactic(auto, unfolding(crate::specs::Region2::gamma2, crate::specs::Region2::unrooted_of2))]
+    fn h(p: f64, t: f64) -> f64 {
+        h_at::<Self>(Self::point(p, t))
     }
 
-    fn s_at(x: Point) -> f64 {
-        s_at::<Self>(x)
+    #[tactic(auto, unfolding(crate::specs::Region2::gamma2, crate::specs::Region2::unrooted_of2))]
+    fn s(p: f64, t: f64) -> f64 {
+        s_at::<Self>(Self::point(p, t))
     }
 
     ghost points = { points2 };
-
-    ghost gammas = { gammas2 };
 
     ghost properties = { properties2 };
 

@@ -3,7 +3,6 @@ use mathlib.Core.Path.{refl}
 use lib.Ieee.{of_int, of_bits}
 use Rattle.vapour.specs.Vapour.{vapour_of}
 use Rattle.vapour.proofs.vapours.added.Goals as goal
-use Rattle.vapour.proofs.vapours.added.Goals.{After-struct_known-5-1}
 
 pub returns : goal.returns
 unfolding vapour_of of_int of_bits

@@ -1,6 +1,0 @@
--- `properties::gibbs::enthalpy` meets its contract: the code is the formula of the definition. Assumes nothing.
-use mathlib.Core.Path.{refl}
-use Rattle.properties.proofs.gibbs.enthalpy.Goals as goal
-
-pub returns : goal.returns
-returns c = refl
