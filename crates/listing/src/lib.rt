@@ -12,7 +12,8 @@ pub use derivatives::{quotients, quotients_head};
 pub use listings::{answers, regions};
 pub use opening::{INPUT, LONGEST, triples};
 
-// The two listings that have a line a row.
+// The two listings that have a line a row. No closures for header and line: the texts of specs/Listings
+// are said by a value of this type.
 #[derive(Clone, Copy)]
 enum Listing {
     Regions,

@@ -83,7 +83,8 @@ fn queried(operation: u8, x: f64) -> f64 {
 }
 
 // The value of one operation at x, which runs from 0.04 to 8 in 110 turns: each stays in its region,
-// and none is below 0.
+// and none is below 0. No table of closures: the letters are those of bench/operations, and a match is
+// as plain.
 fn worked(operation: u8, x: f64) -> f64 {
     match operation {
         b'r' => elementary::root(x),

@@ -32,6 +32,7 @@ fn replay(rt: &impl Print, run: &[u8]) -> io::Result<u64>
     let mut desk = desk::new_desk();
     let mut at = 0;
     let mut k = 0;
+    // A loop: where the run ends depends on what each record takes, and k counts the records for the answer.
     loop {
         let step = play(run, k, at, desk, &mut room);
         let end = step.end;
