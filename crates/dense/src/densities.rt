@@ -50,6 +50,7 @@ fn first_bracket(p: f64, t: f64) -> Bracket
 
 // One halving: the middle becomes the lower end where the pressure there is below the one asked, and
 // the upper end otherwise.
+#[tactic(auto, unfolding(crate::specs::Density::halved3))]
 fn halved(p: f64, t: f64, b: Bracket) -> Bracket
     ensures { result ≡ halved3 p t b }
 {

@@ -128,6 +128,7 @@ impl Region3 {
     }
 
     // φ and its derivatives.
+    #[tactic(auto, unfolding(crate::specs::Region3::phi3))]
     pub fn phi(density: f64, t: f64) -> Dense
         ensures { result ≡ phi3 density t }
     {
@@ -143,6 +144,7 @@ impl Region3 {
     }
 
     // The pressure in MPa from what phi gave for density and t.
+    #[tactic(auto, unfolding(crate::specs::Region3::pressure_of3))]
     pub fn pressure_of(density: f64, t: f64, f: Dense) -> f64
         ensures { result ≡ pressure_of3 density t f }
     {
@@ -150,6 +152,7 @@ impl Region3 {
     }
 
     // The pressure in MPa, from the one sum that it needs.
+    #[tactic(auto, unfolding(crate::specs::Region3::pressure_of3, crate::specs::Region3::phi3, crate::specs::Region3::phi_of3, terms::specs::Six::six_of))]
     pub fn pressure(density: f64, t: f64) -> f64
         ensures { result ≡ pressure3 density t }
     {
@@ -175,6 +178,7 @@ impl Region3 {
     }
 
     // The six properties with w squared, from what phi gave for density and t.
+    #[tactic(auto, unfolding(crate::specs::Region3::unrooted_of3))]
     pub fn unrooted_of(density: f64, t: f64, f: Dense) -> Unrooted
         ensures { result ≡ unrooted_of3 density t f }
     {
@@ -182,6 +186,7 @@ impl Region3 {
     }
 
     // The six properties from what phi gave for density and t.
+    #[tactic(auto, unfolding(crate::specs::Region3::state_of3))]
     pub fn state_of(density: f64, t: f64, f: Dense) -> State
         ensures { result ≡ state_of3 density t f }
     {
@@ -189,6 +194,7 @@ impl Region3 {
     }
 
     // The six properties.
+    #[tactic(auto, unfolding(crate::specs::Region3::state3))]
     pub fn state(density: f64, t: f64) -> State
         ensures { result ≡ state3 density t }
     {
@@ -207,6 +213,7 @@ impl Region3 {
     }
 
     // α, β and cv from what phi gave for density and t.
+    #[tactic(auto, unfolding(crate::specs::Region3::response_of3))]
     pub fn response_of(density: f64, t: f64, f: Dense) -> PressureResponse
         ensures { result ≡ response_of3 density t f }
     {

@@ -83,7 +83,8 @@ pub fn judge(kind: u64, p: f64, y: f64) -> Result<Judged, Refusal>
 }
 
 // One halving, by whether the property at the middle is below the one asked. Only that one property is
-// worked.
+// worked. lo and hi are given one by one, as a row of the desk holds them.
+#[tactic(auto, unfolding(crate::specs::Settle::halved_of, crate::specs::Settle::below_of))]
 pub fn halve(kind: u64, phase: Phase, p: f64, y: f64, lo: f64, hi: f64) -> Bracket
     ensures { result ≡ halved_of kind phase p y lo hi }
 {
@@ -93,6 +94,7 @@ pub fn halve(kind: u64, phase: Phase, p: f64, y: f64, lo: f64, hi: f64) -> Brack
 }
 
 // The state at the middle of the bracket, with its mark.
+#[tactic(auto, unfolding(crate::specs::Settle::settled_of))]
 pub fn settled_at(kind: u64, phase: Phase, p: f64, y: f64, lo: f64, hi: f64) -> Settled
     ensures { result ≡ settled_of kind phase p y lo hi }
 {

@@ -12,7 +12,8 @@ pub fn region(phase: Phase) -> u64
     region_of(equation_of(phase))
 }
 
-// The phase of a region: 1 is liquid. A row of a sound desk has no other than 1 and 2.
+// The phase of a region: 1 is liquid. A row of a sound desk has no other than 1 and 2; no TryFrom, since
+// whether a row is right is asked of the desk, by `sound`.
 pub fn phase(region: u64) -> Phase
     ensures { result ≡ phase_of region }
 {
