@@ -79,6 +79,7 @@ impl Basic for Region5 {
 
     ghost response_of = { response_of5 };
 
+    // These three are those of Parts: no trait can fill in another trait's methods.
     #[tactic(auto, unfolding(crate::specs::Region5::gamma5))]
     fn gamma(p: f64, t: f64) -> Vapour {
         gamma_at::<Self>(Self::point(p, t))

@@ -128,6 +128,7 @@ impl Basic for Region2 {
 
     ghost response_of = { response_of2 };
 
+    // These three are those of Parts: no trait can fill in another trait's methods.
     #[tactic(auto, unfolding(crate::specs::Region2::gamma2))]
     fn gamma(p: f64, t: f64) -> Vapour {
         gamma_at::<Self>(Self::point(p, t))
