@@ -2,6 +2,8 @@
 -- `Post` is the promise itself, read off the source, so a promise that said less would fail here.
 use mathlib.Core.Path.{sym, ◌∙◌}
 use Rattle.arith.proofs.Only.{Only}
+use Rattle.slopes.proofs.answers.value.Kinds as value_kinds
+use Rattle.slopes.proofs.answers.value.Reads as value
 use Rattle.slopes.proofs.numbers.all_known.Kinds as all_known_kinds
 use Rattle.slopes.proofs.numbers.all_known.Reads as all_known
 use Rattle.slopes.proofs.ratios.quotient.Kinds as quotient_kinds
@@ -22,3 +24,6 @@ by_p_and_t_only κs a x y s t p q = p ∙ sym q
 
 pub by_v_and_t_only : Only 0 by_v_and_t_kinds.ps by_v_and_t_kinds.r by_v_and_t.Post
 by_v_and_t_only κs a x y s t p q = p ∙ sym q
+
+pub value_only : Only 0 value_kinds.ps value_kinds.r value.Post
+value_only κs a x y s t p q = p ∙ sym q

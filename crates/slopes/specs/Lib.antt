@@ -1,1 +1,2 @@
 pub mod Slopes
+pub mod Answers

@@ -3,10 +3,12 @@
 // constant third. Every call takes every number; what it answers is said in specs/.
 #![tactic(auto)]
 
+mod answers;
 mod numbers;
 mod ratios;
 mod tables;
 
+pub use answers::value;
 pub use numbers::all_known;
 pub use ratios::quotient;
 pub use tables::{by_p_and_t, by_v_and_t};
