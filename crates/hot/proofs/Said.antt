@@ -13,9 +13,9 @@ unfolding state5 state_of5
 state_5_said p t = refl
 
 pub h_5_said : (p t : Float) → (unrooted_of5 p t (gamma5 p t)).h ≡ h5 p t
-unfolding state5 state_of5
+unfolding state5 state_of5 rooted_of
 h_5_said p t = refl
 
 pub s_5_said : (p t : Float) → (unrooted_of5 p t (gamma5 p t)).s ≡ s5 p t
-unfolding state5 state_of5
+unfolding state5 state_of5 rooted_of
 s_5_said p t = refl

@@ -13,9 +13,9 @@ unfolding state1 state_of1
 state_1_said p t = refl
 
 pub h_1_said : (p t : Float) → (unrooted_of1 p t (gamma1 p t)).h ≡ h1 p t
-unfolding state1 state_of1
+unfolding state1 state_of1 rooted_of
 h_1_said p t = refl
 
 pub s_1_said : (p t : Float) → (unrooted_of1 p t (gamma1 p t)).s ≡ s1 p t
-unfolding state1 state_of1
+unfolding state1 state_of1 rooted_of
 s_1_said p t = refl

@@ -13,9 +13,9 @@ unfolding state2 state_of2
 state_2_said p t = refl
 
 pub h_2_said : (p t : Float) → (unrooted_of2 p t (gamma2 p t)).h ≡ h2 p t
-unfolding state2 state_of2
+unfolding state2 state_of2 rooted_of
 h_2_said p t = refl
 
 pub s_2_said : (p t : Float) → (unrooted_of2 p t (gamma2 p t)).s ≡ s2 p t
-unfolding state2 state_of2
+unfolding state2 state_of2 rooted_of
 s_2_said p t = refl
