@@ -61,7 +61,8 @@ const TABLE: Table<'static> = Table {
     ],
 };
 
-// Above 623.15 K and up to 863.15 K, at pressures above those of region 2.
+// Above 623.15 K and up to 863.15 K, at pressures above those of region 2. Its equation is in density and T, so
+// it is none of `properties::Basic`.
 #[derive(Clone, Copy)]
 pub struct Region3;
 

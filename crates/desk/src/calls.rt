@@ -19,7 +19,7 @@ pub fn new_desk() -> Desk
     }
 }
 
-// Whether a caller, a kind and a number of halvings are ones that a post may name.
+// Whether a caller, a kind and a number of halvings are ones that a post may name: any numbers may be posted.
 #[tactic(auto, unfolding(runs::specs::Model::known))]
 fn known(caller: u64, kind: u64, number: u64) -> bool
     ensures { result ≡ known caller kind number }

@@ -32,7 +32,8 @@ fn row(sheet: &[u8], reading: Result<Rows, Refusal>, k: usize, room: &mut [u8; R
     listing::quotients(sheet, reading, k, room)
 }
 
-// Prints the listing of a sheet, a row at a time, and answers how many rows were listed: all of them.
+// Prints the listing of a sheet, a row at a time, and answers how many rows were listed: all of them. They are
+// counted, since that none is left out is what the promise says.
 fn print(rt: &impl Print, sheet: &[u8]) -> io::Result<usize>
     ensures { IfOk result (λ n. n ≡ count_of (triples_of sheet.now)) }
 {

@@ -9,7 +9,8 @@ mod desks;
 pub use deeds::read;
 pub use desks::desk_in;
 
-// A call of the desk that a record asks for.
+// A call of the desk that a record asks for, with the numbers that stand there, right or not: the desk judges
+// them.
 #[derive(Clone, Copy)]
 pub enum Call {
     Post {

@@ -7,7 +7,7 @@ use crate::Answer;
 use equations::region_of;
 use refusals::Refusal;
 
-// The region, 0 if refused.
+// The region, 0 if refused, as the lines of the programs say it.
 pub fn region(a: Result<Answer, Refusal>) -> u64
     ensures { result ≡ region_of a }
 {

@@ -21,7 +21,8 @@ pub fn saturation(t: f64) -> Result<SaturationPressure, Refusal>
     ps(t).ok_or(Refusal::Temperature)
 }
 
-// The place of an answer, which is no region: 1 up to 623.15 K, 2 above that, 0 if refused.
+// The place of an answer, which is no region: 1 up to 623.15 K, 2 above that, 0 if refused, as the request
+// numbers them.
 pub fn place(answer: Result<SaturationPressure, Refusal>) -> u64
     ensures { result ≡ place_of answer }
 {

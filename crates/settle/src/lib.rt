@@ -64,7 +64,8 @@ fn first_bracket(phase: Phase, p: f64) -> Bracket
     }
 }
 
-// A post of kind 2, (p,h), or 3, (p,s), judged. Another kind is refused by 9, a wet query by 8.
+// A post of kind 2, (p,h), or 3, (p,s), judged. Another kind is refused by 9, a wet query by 8. The kind is a
+// number, here and below, since a caller may post any and a row of the desk holds it.
 pub fn judge(kind: u64, p: f64, y: f64) -> Result<Judged, Refusal>
     ensures { result ≡ judged_of kind p y }
 {

@@ -84,7 +84,8 @@ fn at(a: Slopes, z: Property, x: Property, y: Property) -> Result<f64, Refusal>
     Err(Refusal::WetOrSingular)
 }
 
-// The derivative of property z by property x at constant y, numbered 1 to 8, at a state, from its slopes.
+// The derivative of property z by property x at constant y, numbered 1 to 8, at a state, from its slopes. They
+// are numbers, since any is taken and one that is no property's is refused by 9.
 #[tactic(auto, unfolding(crate::specs::Slopes::derivative_at, crate::specs::Slopes::all_known))]
 pub fn quotient(a: Slopes, z: u64, x: u64, y: u64) -> Result<f64, Refusal>
     ensures { result ≡ derivative_at a z x y }

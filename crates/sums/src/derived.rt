@@ -9,7 +9,8 @@ use refusals::Refusal;
 use workings::quotient_at;
 
 // The derivative of property z by property x at constant y, numbered 1 to 8, at the state that a
-// query gives; kind, c and d are those of `query`.
+// query gives; kind, c and d are those of `query`. All four are numbers, since any is taken and one that names
+// nothing is refused by 9.
 pub fn quotient(kind: u64, c: f64, d: f64, z: u64, x: u64, y: u64) -> Result<f64, Refusal>
     ensures { result ≡ quotient_of kind c d z x y }
 {

@@ -52,7 +52,8 @@ pub fn from_hs(h: f64, s: f64) -> Result<Answer, Refusal>
     Ok(Answer::Single(handed_out(a)))
 }
 
-// From the values of a kind: 1 to 4 are (p,T), (p,h), (p,s), (h,s).
+// From the values of a kind: 1 to 4 are (p,T), (p,h), (p,s), (h,s). The kind is a number, since any is taken
+// and another is refused by 9.
 pub fn query(kind: u64, x: f64, y: f64) -> Result<Answer, Refusal>
     ensures { result ≡ answer_of kind x y }
 {
