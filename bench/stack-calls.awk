@@ -1,6 +1,7 @@
 # For bench/stack: reads the sources of crates, and of those named in `asked` writes a Rattle library that has each public call, or of them those named in `only`,
 # under a name which a linker sees, CRATE__CALL or CRATE__TYPE__CALL. Such a function takes numbers, makes the call's arguments of them, and gives the sum of all
-# values of the result, so that the compiler leaves none out. Types are read where they are declared. What is not provided for stops it: an argument or a result
+# values of the result, so that the compiler leaves none out. The calls of a type by a trait `Basic` or `Gamma` are its public calls too; a generic function is none by
+# itself, and stands in those that use it. Types are read where they are declared. What is not provided for stops it: an argument or a result
 # of another kind, a public call of another form, a call asked for that is passed on from another crate.
 function fail(why) { print "bench/stack: " why > "/dev/stderr"; failed = 1; exit 1 }
 function before(mark, text) { sub(mark ".*", "", text); return text }
@@ -8,13 +9,23 @@ function behind(mark, text) { sub(".*" mark, "", text); return text }
 
 FNR == 1 { split(FILENAME, path, "/"); crate = path[2]; owner = declared = "" }
 /^impl / { owner = $2 }
+/^pub fn [a-z0-9_]*</ { generic[crate "::" behind("fn ", before("<", $0))] = 1 }
+/^pub trait (Basic|Gamma)[ :]/ { trait = $3; sub(/:.*/, "", trait) }
+trait != "" && /^    fn / {
+    text = $0; sub(/;.*/, "", text)
+    method[trait, ++methods[trait]] = behind("fn ", before("[(]", text))
+    takes[trait, methods[trait]] = before("[)]", behind("[(]", text))
+    gives[trait, methods[trait]] = behind("-> ", text)
+}
+/^impl (Basic|Gamma) for / && index(" " asked " ", " " crate " ") { kept[++keeps] = $4; by[keeps] = $2; home[keeps] = crate }
+/^    type Gamma = / { gamma[kept[keeps]] = $4; sub(/;/, "", gamma[kept[keeps]]) }
 /^pub (struct|enum) .*[{]$/ { declared = $3; form[declared] = $2; full[declared] = crate "::" declared }
-/^}/ { owner = declared = "" }
+/^}/ { owner = declared = trait = "" }
 declared != "" && /^    [A-Za-z]/ {
     sub(/^ +(pub )?/, ""); sub(/,$/, "")
     part[declared, ++parts[declared]] = $0
 }
-/^(    )?pub fn / && index(" " asked " ", " " crate " ") {
+/^(    )?pub fn [a-z0-9_]*[(]/ && index(" " asked " ", " " crate " ") {
     while ($0 !~ /[)]/) { text = $0; if (getline <= 0) { break } sub(/^ +/, ""); $0 = text $0 }
     called[++calls] = crate "::" (owner == "" ? "" : owner "::") behind("fn ", before("[(]", $0))
     taken[calls] = before("[)]", behind("[(]", $0))
@@ -74,11 +85,22 @@ function made(name, type,    i, text) {
     return full[type] " { " text " }"
 }
 
+# What a text of a trait says of the type that keeps it.
+function own(text, type) { gsub(/Self::Gamma/, gamma[type], text); sub(/^self/, "a: " type, text); gsub(/Self/, type, text); return text }
+
 END {
     if (failed) { exit 1 }
+    for (k = 1; k <= keeps; k++) {
+        for (m = 1; m <= methods[by[k]]; m++) {
+            called[++calls] = home[k] "::" kept[k] "::" method[by[k], m]
+            taken[calls] = own(takes[by[k], m], kept[k])
+            given[calls] = own(gives[by[k], m], kept[k])
+        }
+    }
+    if (keeps) { print "use properties::{Basic, Gamma};\n" }
     for (c = 1; c <= calls; c++) { delete passed[called[c]] }
     for (name in passed) {
-        if (name !~ /::[A-Z]/ && (only == "" || index(" " only " ", " " name " "))) { fail(name " is passed on from another crate") }
+        if (name !~ /::[A-Z]/ && !(name in generic) && (only == "" || index(" " only " ", " " name " "))) { fail(name " is passed on from another crate") }
     }
     for (c = 1; c <= calls; c++) {
         if (only != "" && !index(" " only " ", " " called[c] " ")) { continue }
