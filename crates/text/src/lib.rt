@@ -8,9 +8,72 @@ mod plain;
 
 ghost use Rattle.std.specs.Prelude.{◌≡◌, [], ◌∷◌, ◌++◌, ◌<◌, ◌≤◌, length};
 ghost use Rattle.text.specs.Room.{Written};
+ghost use Rattle.text.specs.Lines.{Writes};
 ghost use Rattle.text.specs.Texts.{decimal_of, hex_digit, digits_in, hex_of, column_of};
+ghost use Rattle.text.specs.Decimals.{fixed_of};
 
 pub use plain::fixed;
+
+// A room that is lent for text, and the place in it where the next text goes.
+#[derive(Drop)]
+pub struct Line<'a> {
+    room: &'a mut [u8],
+    at: usize,
+}
+
+impl<'a> Line<'a> {
+    // A line that begins at a place of its room.
+    pub fn new(room: &'a mut [u8], at: usize) -> Line<'a>
+        ensures same { result.room.ghost_name ≡ room.entry.ghost_name }
+        ensures start { (result.room.now ≡ room.old) × (result.at ≡ at) }
+    {
+        Line { room, at }
+    }
+
+    // The place behind what is written.
+    pub fn end(&self) -> usize
+        ensures { result ≡ self.now.at }
+    {
+        self.at
+    }
+
+    // Writes a string of bytes.
+    pub fn bytes(&mut self, src: &[u8])
+        ensures { Writes self.old src.now self.new }
+    {
+        self.at = bytes(src, self.room, self.at);
+    }
+
+    // Writes n in decimal, and the byte that ends it.
+    pub fn decimal(&mut self, n: u64, end: u8)
+        ensures { Writes self.old (decimal_of n ++ end ∷ []) self.new }
+    {
+        self.at = decimal(n, end, self.room, self.at);
+    }
+
+    // Writes 64 bits as 16 hexadecimal digits in lower case, and the byte that ends them.
+    pub fn hex(&mut self, bits: u64, end: u8)
+        ensures { Writes self.old (hex_of bits ++ end ∷ []) self.new }
+    {
+        self.at = hex(bits, end, self.room, self.at);
+    }
+
+    // Writes a column of a line, and the byte that ends it: the bits of an f64 in hexadecimal, `nan`,
+    // or `-` where there is no value.
+    pub fn column(&mut self, c: Option<f64>, end: u8)
+        ensures { Writes self.old (column_of c ++ end ∷ []) self.new }
+    {
+        self.at = column(c, end, self.room, self.at);
+    }
+
+    // Writes x with so many decimals, at most three, rounded to the nearest on its exact value, a half
+    // away from zero, and the byte that ends it.
+    pub fn fixed(&mut self, x: f64, places: usize, end: u8)
+        ensures { Writes self.old (fixed_of x places ++ end ∷ []) self.new }
+    {
+        self.at = fixed(x, places, end, self.room, self.at);
+    }
+}
 
 // Writes a string of bytes.
 pub fn bytes(src: &[u8], out: &mut [u8], at: usize) -> usize
