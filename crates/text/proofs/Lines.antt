@@ -1,12 +1,12 @@
 -- What is written into a line, piece by piece: what a caller of several writers needs, whatever its line. Assumes nothing.
-use mathlib.Core.Path.{◌≡◌, refl, ap, ◌∙◌}
+use mathlib.Core.Path.{◌≡◌, refl, sym, ap, ◌∙◌}
 use mathlib.Core.List.{List, [], ◌++◌}
 use Prim.Native.Nat.{ℕ, ◌+◌, ◌≤◌}
 use Rattle.text.specs.Room.{Written, placed, after}
 use Rattle.text.specs.Lines.{Writes}
 use Rattle.text.specs.declared.Line.{Line}
 use Rattle.text.specs.Texts.{joined}
-use Rattle.text.proofs.Pieces.{none, then, said}
+use Rattle.text.proofs.Pieces.{none, then, said, behind}
 use Rattle.text.proofs.Joined.{turned, ended}
 
 -- nothing is written
@@ -53,6 +53,6 @@ from {o} {o'} {o₁} {s} {at} {at'} {p} e f x = record {
 pub lands : {o o₁ o₂ s : List ℕ} {at p : ℕ} → o₂ ≡ o₁ → Written o at s o₁ p → Written o at s o₂ p
 lands {o} {o₁} {o₂} {s} {at} {p} e x = record { room = e ∙ x.room; place = x.place }
 
--- Such a call's promise. The line a is new (`new`'s `start`), b is what was written of it, and o₁ is the room as the caller has it back.
-pub lent : {a b : Line} {o o₁ s : List ℕ} {at : ℕ} → o₁ ≡ b.room.now → (a.room.now ≡ o) × (a.at ≡ at) → Writes a s b → Written o at s o₁ b.at
-lent e f x = lands e (from f.0 f.1 x.text)
+-- Such a call's promise. The line a is new (`new`'s `start`), b is what was written of it, o₁ is the room as the caller has it back, and p is b's `end`.
+pub lent : {a b : Line} {o o₁ s : List ℕ} {at p : ℕ} → o₁ ≡ b.room.now → p ≡ b.at → (a.room.now ≡ o) × (a.at ≡ at) → Writes a s b → Written o at s o₁ p
+lent e q f x = lands e (from f.0 f.1 (behind (sym q) x.text))
