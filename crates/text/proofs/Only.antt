@@ -35,8 +35,14 @@ abbrev pub OnlyLine : (n : ℕ) (ps : List (ParamKind n)) (r : ResultKind n) →
 OnlyLine n ps r line Post =
     (κs : Lfts n) (a : Dens κs ps) (x y : (res_t r κs).Denot) (s t : AtExit (ended_of n ps r) κs) → Post κs a x s → Post κs a y t → Same (line κs s) (line κs t)
 
+-- The same of a call that is lent a room and answers the place behind what it wrote: one result, and one room afterwards, which `room` picks out of the
+-- parameters as they stand at exit. The calls of the crates above are such.
+abbrev pub OnlyRoom : (n : ℕ) (ps : List (ParamKind n)) (r : ResultKind n) → ((κs : Lfts n) → AtExit (ended_of n ps r) κs → List ℕ) → Out n ps r → Type 0
+OnlyRoom n ps r room Post =
+    (κs : Lfts n) (a : Dens κs ps) (x y : (res_t r κs).Denot) (s t : AtExit (ended_of n ps r) κs) → Post κs a x s → Post κs a y t → (x ≡ y) × (room κs s ≡ room κs t)
+
 -- what is written into a line leaves one line
-one : {l m m' : Line} {s : List ℕ} → Writes l s m → Writes l s m' → Same m m'
+pub one : {l m m' : Line} {s : List ℕ} → Writes l s m → Writes l s m' → Same m m'
 one p q = record { room = p.same ∙ sym q.same; bytes = p.text.room ∙ sym q.text.room; place = p.text.place ∙ sym q.text.place }
 
 pub new_only : (κs : Lfts 1) (a : Dens κs new_kinds.ps) (x y : (res_t new_kinds.r κs).Denot) (s t : AtExit (ended_of 1 new_kinds.ps new_kinds.r) κs)
