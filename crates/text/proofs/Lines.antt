@@ -7,7 +7,7 @@ use Rattle.text.specs.Lines.{Writes}
 use Rattle.text.specs.declared.Line.{Line}
 use Rattle.text.specs.Texts.{joined}
 use Rattle.text.proofs.Pieces.{none, then, said, behind}
-use Rattle.text.proofs.Joined.{turned, ended}
+use Rattle.text.proofs.Joined.{begun, turned, ended}
 
 -- nothing is written
 pub nothing_line : {a : Line} → Writes a [] a
@@ -29,8 +29,7 @@ reads_line x e = said_line e x
 
 -- before it
 pub begun_line : (text : ℕ → List ℕ) (a : Line) → Writes a (joined text 0) a
-unfolding joined
-begun_line text a = nothing_line
+begun_line text a = record { same = refl; text = begun text _ _ }
 
 -- a turn writes text k
 pub turned_line : (text : ℕ → List ℕ) (k : ℕ) {a b c : Line} → Writes a (joined text k) b → Writes b (text k) c → Writes a (joined text (k + 1)) c
@@ -43,14 +42,14 @@ ended_line text h l x = record { same = x.same; text = ended text h l x.text }
 -- ---- a call that makes a line of the room that it is lent
 
 -- what the room and the place were at first
-pub from : {o o' o₁ s : List ℕ} {at at' p : ℕ} → o ≡ o' → at ≡ at' → Written o at s o₁ p → Written o' at' s o₁ p
+from : {o o' o₁ s : List ℕ} {at at' p : ℕ} → o ≡ o' → at ≡ at' → Written o at s o₁ p → Written o' at' s o₁ p
 from {o} {o'} {o₁} {s} {at} {at'} {p} e f x = record {
   room = x.room ∙ ap (λ (l : List ℕ). placed l at s) e ∙ ap (λ (k : ℕ). placed o' k s) f;
   place = x.place ∙ ap (λ (l : List ℕ). after l at s) e ∙ ap (λ (k : ℕ). after o' k s) f;
 }
 
 -- what the room holds at the end
-pub lands : {o o₁ o₂ s : List ℕ} {at p : ℕ} → o₂ ≡ o₁ → Written o at s o₁ p → Written o at s o₂ p
+lands : {o o₁ o₂ s : List ℕ} {at p : ℕ} → o₂ ≡ o₁ → Written o at s o₁ p → Written o at s o₂ p
 lands {o} {o₁} {o₂} {s} {at} {p} e x = record { room = e ∙ x.room; place = x.place }
 
 -- Such a call's promise. The line a is new (`new`'s `start`), b is what was written of it, o₁ is the room as the caller has it back, and p is b's `end`.

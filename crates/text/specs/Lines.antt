@@ -3,7 +3,7 @@ use Rattle.std.specs.Prelude.{◌≡◌, ℕ, List}
 use Rattle.text.specs.Room.{Written}
 use Rattle.text.specs.declared.Line.{Line}
 
--- What every writer promises: the line l, with s written behind what stood in it, is l'. The room is the one that was lent, cut as `placed` says.
+-- What every writer promises: l' is the line l with s written at its place. It has the same room, with s in it from that place on, and the place behind s.
 pub record Writes (l : Line) (s : List ℕ) (l' : Line) : Type 0 where
   pub same : l'.room.ghost_name ≡ l.room.ghost_name
   pub text : Written l.room.now l.at s l'.room.now l'.at
