@@ -1,5 +1,6 @@
 // The lines that the sheet programs print of a row of a sheet, or of a sheet that is refused
-// (specs/Lines.antt): each goes where the caller's line ends. Where the room ends first, it is cut there.
+// (specs/Lines.antt): each is written behind what stands in the caller's `text::Line`. Where its room
+// ends first, the text is cut there.
 #![tactic(auto)]
 
 mod columns;
