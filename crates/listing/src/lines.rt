@@ -1,45 +1,40 @@
 // The lines of the listings (specs/Listings.antt).
 ghost use Rattle.std.specs.Prelude.{◌≡◌};
-ghost use Rattle.text.specs.Room.{Written};
+ghost use Rattle.text.specs.Lines.{Writes};
 ghost use Rattle.text.specs.Texts.{joined};
 ghost use Rattle.listing.specs.Listings.{header_of, row_line, line_at};
 
 use crate::Listing;
 use row_lines::{answer_line, region_line};
 use sheet::{Point, Rows};
+use text::Line;
 
 // Writes a listing's header.
-pub(crate) fn header(listing: Listing, out: &mut [u8]) -> usize
-    ensures { Written out.old 0 (header_of listing) out.new result }
+pub(crate) fn header(listing: Listing, line: &mut Line<'_>)
+    ensures { Writes line.old (header_of listing) line.new }
 {
     match listing {
-        Listing::Regions => text::bytes(b"row kind answer region\n", out, 0),
-        Listing::Answers => text::bytes(
-            b"row kind answer region mark p T v u h s cp w x\n",
-            out,
-            0,
-        ),
+        Listing::Regions => line.bytes(b"row kind answer region\n"),
+        Listing::Answers => line.bytes(b"row kind answer region mark p T v u h s cp w x\n"),
     }
 }
 
 // Writes a row's line.
-fn line(listing: Listing, number: u64, row: Point, out: &mut [u8], at: usize) -> usize
-    ensures { Written out.old at (row_line listing number row) out.new result }
+fn row_line(listing: Listing, number: u64, row: Point, line: &mut Line<'_>)
+    ensures { Writes line.old (row_line listing number row) line.new }
 {
     match listing {
-        Listing::Regions => region_line(number, row, out, at),
-        Listing::Answers => answer_line(number, row, out, at),
+        Listing::Regions => region_line(number, row, line),
+        Listing::Answers => answer_line(number, row, line),
     }
 }
 
 // Writes the lines of the rows, numbered from 1.
-pub(crate) fn lines(listing: Listing, sheet: &[u8], rows: Rows, out: &mut [u8], at: usize) -> usize
-    ensures { Written out.old at (joined (line_at listing sheet.now rows.start) rows.count) out.new result }
+pub(crate) fn lines(listing: Listing, sheet: &[u8], rows: Rows, line: &mut Line<'_>)
+    ensures { Writes line.old (joined (line_at listing sheet.now rows.start) rows.count) line.new }
 {
-    let mut p = at;
     for k in 0..rows.count {
         let row = sheet::row(sheet, rows.start, k);
-        p = line(listing, k as u64 + 1, row, out, p);
+        row_line(listing, k as u64 + 1, row, line);
     }
-    p
 }

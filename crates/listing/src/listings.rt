@@ -1,4 +1,5 @@
 // The listings, one a program (specs/Listings.antt).
+ghost use Rattle.text.specs.Lines.{Writes};
 ghost use Rattle.text.specs.Room.{Written};
 ghost use Rattle.listing.specs.Listings.{opened_of, listed_of, regions_text, answers_text};
 
@@ -6,17 +7,18 @@ use crate::Listing;
 use crate::lines::{header, lines};
 use crate::opening::opened;
 use row_lines::refused;
+use text::Line;
 
 // Writes the header and a line a row; of a refused sheet only its number.
-fn listed(listing: Listing, sheet: &[u8], out: &mut [u8]) -> usize
-    ensures { Written out.old 0 (listed_of listing sheet.now (opened_of sheet.now)) out.new result }
+fn listed(listing: Listing, sheet: &[u8], line: &mut Line<'_>)
+    ensures { Writes line.old (listed_of listing sheet.now (opened_of sheet.now)) line.new }
 {
     match opened(sheet) {
         Ok(rows) => {
-            let at = header(listing, out);
-            lines(listing, sheet, rows, out, at)
+            header(listing, line);
+            lines(listing, sheet, rows, line);
         }
-        Err(refusal) => refused(refusal.number(), out),
+        Err(refusal) => refused(refusal.number(), line),
     }
 }
 
@@ -24,12 +26,16 @@ fn listed(listing: Listing, sheet: &[u8], out: &mut [u8]) -> usize
 pub fn regions(sheet: &[u8], out: &mut [u8]) -> usize
     ensures { Written out.old 0 (regions_text sheet.now) out.new result }
 {
-    listed(Listing::Regions, sheet, out)
+    let mut line = Line::new(out, 0);
+    listed(Listing::Regions, sheet, &mut line);
+    line.end()
 }
 
 // The text of `answers`: the same with mark and values.
 pub fn answers(sheet: &[u8], out: &mut [u8]) -> usize
     ensures { Written out.old 0 (answers_text sheet.now) out.new result }
 {
-    listed(Listing::Answers, sheet, out)
+    let mut line = Line::new(out, 0);
+    listed(Listing::Answers, sheet, &mut line);
+    line.end()
 }

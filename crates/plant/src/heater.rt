@@ -9,6 +9,7 @@ use crate::model::{Asks, Output};
 pub(crate) use positions::Place;
 use refusals::Refusal;
 use states::Single;
+use text::Line;
 
 // How many halvings settle a state that the heater asks for: rough ones will do, and come soon.
 pub(crate) const HALVINGS: u64 = 10;
@@ -107,9 +108,11 @@ pub(crate) fn told(
     known: Result<Single, Refusal>,
     room: &mut [u8],
 ) -> Heater {
-    let n = positions::title(place, room, heater.next_line);
+    let mut line = Line::new(room, heater.next_line);
+    positions::title(place, &mut line);
+    model::told(known, given(place), &mut line);
     let mut after = advanced(heater, place, known);
-    after.next_line = model::told(known, given(place), room, n);
+    after.next_line = line.end();
     after
 }
 

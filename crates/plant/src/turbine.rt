@@ -8,6 +8,7 @@ use crate::model::{Asks, Output};
 use crate::turbine::positions::Place;
 use refusals::Refusal;
 use states::Single;
+use text::Line;
 
 // How many halvings settle a state that the turbine asks for: its shaft power wants fine ones.
 pub(crate) const HALVINGS: u64 = 50;
@@ -177,8 +178,10 @@ fn line(
     given: Option<Output>,
     room: &mut [u8],
 ) -> usize {
-    let n = positions::title(place, room, turbine.next_line);
-    model::told(known, given, room, n)
+    let mut line = Line::new(room, turbine.next_line);
+    positions::title(place, &mut line);
+    model::told(known, given, &mut line);
+    line.end()
 }
 
 // The turbine stops at a refusal, and says so.
@@ -194,7 +197,9 @@ fn settled(turbine: Turbine, place: Place, single: Single, room: &mut [u8]) -> T
     let given = given(turbine, place, single);
     let mut after = counted(advanced(turbine, place, single));
     after.next_line = line(turbine, place, Ok(single), given, room);
-    after.next_bits = model::bits(single, room, turbine.next_bits);
+    let mut bits = Line::new(room, turbine.next_bits);
+    model::bits(single, &mut bits);
+    after.next_bits = bits.end();
     after
 }
 
@@ -205,7 +210,9 @@ fn summed_up(turbine: Turbine, room: &mut [u8]) -> Turbine {
     }
     let what = b"  turbine in all: shaft power ";
     let mut after = turbine;
-    after.next_line = model::megawatts(what, turbine.power, room, turbine.next_line);
+    let mut line = Line::new(room, turbine.next_line);
+    model::megawatts(what, turbine.power, &mut line);
+    after.next_line = line.end();
     after
 }
 

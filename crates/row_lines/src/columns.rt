@@ -1,12 +1,13 @@
 // The columns that lines are made of (specs/Lines.antt).
 ghost use Rattle.std.specs.Prelude.{◌≡◌};
-ghost use Rattle.text.specs.Room.{Written};
+ghost use Rattle.text.specs.Lines.{Writes};
 ghost use Rattle.reply.specs.Answers.{values_of};
 ghost use Rattle.row_lines.specs.Lines.{asked_of, verdict_of, digit_of, mark_byte, value_columns};
 
 use refusals::Refusal;
 use reply::Answer;
 use sheet::Point;
+use text::Line;
 
 // The query of a row.
 pub(crate) fn asked(row: Point) -> Result<Answer, Refusal>
@@ -25,15 +26,14 @@ pub(crate) fn verdict(
     kind: u64,
     a: Result<Answer, Refusal>,
     end: u8,
-    out: &mut [u8],
-    at: usize,
-) -> usize
-    ensures { Written out.old at (verdict_of number kind a end) out.new result }
+    line: &mut Line<'_>,
+)
+    ensures { Writes line.old (verdict_of number kind a end) line.new }
 {
-    let at = text::decimal(number, b' ', out, at);
-    let at = text::decimal(kind, b' ', out, at);
-    let at = text::decimal(refusals::number(a), b' ', out, at);
-    text::decimal(reply::region(a), end, out, at)
+    line.decimal(number, b' ');
+    line.decimal(kind, b' ');
+    line.decimal(refusals::number(a), b' ');
+    line.decimal(reply::region(a), end);
 }
 
 // A mark as a digit.
@@ -55,14 +55,13 @@ pub(crate) fn mark(a: Result<Answer, Refusal>) -> u8
 }
 
 // Writes the nine values of an answer, which end its line.
-pub(crate) fn values(a: Result<Answer, Refusal>, out: &mut [u8], at: usize) -> usize
-    ensures { Written out.old at (value_columns (values_of a)) out.new result }
+pub(crate) fn values(a: Result<Answer, Refusal>, line: &mut Line<'_>)
+    ensures { Writes line.old (value_columns (values_of a)) line.new }
 {
     let values = reply::values(a);
-    let mut p = at;
     for k in 0..8 {
-        p = text::column(values[k], b' ', out, p);
+        line.column(values[k], b' ');
     }
     let x = values[8];
-    text::column(x, b'\n', out, p)
+    line.column(x, b'\n');
 }

@@ -1,56 +1,48 @@
 // A line each (specs/Lines.antt).
 ghost use Rattle.std.specs.Prelude.{◌≡◌};
-ghost use Rattle.text.specs.Room.{Written};
+ghost use Rattle.text.specs.Lines.{Writes};
 ghost use Rattle.row_lines.specs.Lines.{refused_line, region_line, answer_line, quotient_line};
 
 use crate::columns::{asked, mark, values, verdict};
 use sheet::Point;
+use text::Line;
 
 // Writes `refused N`, all that is said of a refused sheet.
-pub fn refused(number: u64, out: &mut [u8]) -> usize
-    ensures { Written out.old 0 (refused_line number) out.new result }
+pub fn refused(number: u64, line: &mut Line<'_>)
+    ensures { Writes line.old (refused_line number) line.new }
 {
-    let at = text::bytes(b"refused ", out, 0);
-    text::decimal(number, b'\n', out, at)
+    line.bytes(b"refused ");
+    line.decimal(number, b'\n');
 }
 
 // Writes a row's number, kind, refusal and region.
-pub fn region_line(number: u64, row: Point, out: &mut [u8], at: usize) -> usize
-    ensures { Written out.old at (region_line number row) out.new result }
+pub fn region_line(number: u64, row: Point, line: &mut Line<'_>)
+    ensures { Writes line.old (region_line number row) line.new }
 {
-    verdict(number, row.kind, asked(row), b'\n', out, at)
+    verdict(number, row.kind, asked(row), b'\n', line);
 }
 
 // Writes the same, the mark and the nine values.
-pub fn answer_line(number: u64, row: Point, out: &mut [u8], at: usize) -> usize
-    ensures { Written out.old at (answer_line number row) out.new result }
+pub fn answer_line(number: u64, row: Point, line: &mut Line<'_>)
+    ensures { Writes line.old (answer_line number row) line.new }
 {
     let a = asked(row);
-    let marked = [mark(a), b' '];
-    let at = verdict(number, row.kind, a, b' ', out, at);
-    let at = text::bytes(&marked, out, at);
-    values(a, out, at)
+    verdict(number, row.kind, a, b' ', line);
+    line.bytes(&[mark(a), b' ']);
+    values(a, line);
 }
 
 // Writes a row's number, the properties z, x, y, the refusal and the value.
-pub fn quotient_line(
-    number: u64,
-    row: Point,
-    z: u64,
-    x: u64,
-    y: u64,
-    out: &mut [u8],
-    at: usize,
-) -> usize
-    ensures { Written out.old at (quotient_line number row z x y) out.new result }
+pub fn quotient_line(number: u64, row: Point, z: u64, x: u64, y: u64, line: &mut Line<'_>)
+    ensures { Writes line.old (quotient_line number row z x y) line.new }
 {
     let c = arith::float_of(row.first);
     let d = arith::float_of(row.second);
     let q = sums::quotient(row.kind, c, d, z, x, y);
-    let at = text::decimal(number, b' ', out, at);
-    let at = text::decimal(z, b' ', out, at);
-    let at = text::decimal(x, b' ', out, at);
-    let at = text::decimal(y, b' ', out, at);
-    let at = text::decimal(refusals::number(q), b' ', out, at);
-    text::column(q.ok(), b'\n', out, at)
+    line.decimal(number, b' ');
+    line.decimal(z, b' ');
+    line.decimal(x, b' ');
+    line.decimal(y, b' ');
+    line.decimal(refusals::number(q), b' ');
+    line.column(q.ok(), b'\n');
 }

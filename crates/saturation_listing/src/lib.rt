@@ -10,6 +10,7 @@ ghost use Rattle.text.specs.Room.{Written};
 ghost use Rattle.saturation_listing.specs.Listing.{bad_length, saturation_text};
 
 use lines::lines;
+use text::Line;
 
 // The longest input: 8,192 words of eight bytes.
 pub const LONGEST: usize = 65536;
@@ -29,10 +30,13 @@ fn bad(length: usize) -> bool
 pub fn saturation(input: &[u8], out: &mut [u8]) -> usize
     ensures { Written out.old 0 (saturation_text input.now) out.new result }
 {
+    let mut line = Line::new(out, 0);
     let length = input.len();
     if bad(length) {
-        return text::bytes(b"bad input\n", out, 0);
+        line.bytes(b"bad input\n");
+        return line.end();
     }
-    let at = text::bytes(b"row answer place p\n", out, 0);
-    lines(input, length / 8, out, at)
+    line.bytes(b"row answer place p\n");
+    lines(input, length / 8, &mut line);
+    line.end()
 }

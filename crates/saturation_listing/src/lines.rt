@@ -1,30 +1,30 @@
 // The lines of the listing (specs/Listing.antt).
 ghost use Rattle.std.specs.Prelude.{◌≡◌};
-ghost use Rattle.text.specs.Room.{Written};
+ghost use Rattle.text.specs.Lines.{Writes};
 ghost use Rattle.text.specs.Texts.{joined};
 ghost use Rattle.saturation_listing.specs.Listing.{temperature_line, line_at};
 
+use text::Line;
+
 // Writes a row's number, the refusal, the place and p at T in K.
-fn line(number: u64, t: f64, out: &mut [u8], at: usize) -> usize
-    ensures { Written out.old at (temperature_line number t) out.new result }
+fn temperature_line(number: u64, t: f64, line: &mut Line<'_>)
+    ensures { Writes line.old (temperature_line number t) line.new }
 {
     let a = saturation_reply::saturation(t);
     let refusal = refusals::number(a);
     let place = saturation_reply::place(a);
-    let at = text::decimal(number, b' ', out, at);
-    let at = text::decimal(refusal, b' ', out, at);
-    let at = text::decimal(place, b' ', out, at);
-    text::column(saturation_reply::value(a), b'\n', out, at)
+    line.decimal(number, b' ');
+    line.decimal(refusal, b' ');
+    line.decimal(place, b' ');
+    line.column(saturation_reply::value(a), b'\n');
 }
 
 // Writes the lines of the first n words, numbered from 1.
-pub(crate) fn lines(input: &[u8], n: usize, out: &mut [u8], at: usize) -> usize
-    ensures { Written out.old at (joined (line_at input.now) n) out.new result }
+pub(crate) fn lines(input: &[u8], n: usize, line: &mut Line<'_>)
+    ensures { Writes line.old (joined (line_at input.now) n) line.new }
 {
-    let mut p = at;
     for k in 0..n {
         let t = arith::float_of(words::word(input, k));
-        p = line(k as u64 + 1, t, out, p);
+        temperature_line(k as u64 + 1, t, line);
     }
-    p
 }

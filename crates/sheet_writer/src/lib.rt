@@ -8,6 +8,7 @@ ghost use Rattle.sheet_writer.specs.Write.{length_of, sheet_of, write_of, room_o
 
 use refusals::Refusal;
 use sheet::kinds_known;
+use text::Line;
 use versions::{allowed, version_for};
 
 // The sheet's length: 0 where it is refused.
@@ -62,9 +63,10 @@ fn fill(note: &[u8], rows: &[u8], out: &mut [u8])
         u32_bytes(version_for(count)),
         u32_bytes(0),
     ];
-    let at = text::bytes(note, out, 0);
-    let at = text::bytes(rows, out, at);
-    text::bytes(last.as_flattened(), out, at);
+    let mut line = Line::new(out, 0);
+    line.bytes(note);
+    line.bytes(rows);
+    line.bytes(last.as_flattened());
 }
 
 // Writes the sheet of a note and rows' bytes at the front of the room and nothing behind it, or

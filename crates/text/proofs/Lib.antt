@@ -1,7 +1,8 @@
--- `Pieces`: what a caller of several writers needs. `Joined`: what a loop that writes needs. `Lengths`: how long a text can be.
+-- `Pieces`, `Lines`: what a caller of several writers needs. `Joined`: what a loop that writes needs. `Lengths`: how long a text can be.
 -- `Digits`: a number's text, digit by digit. `Rounding`: the whole number nearest a multiple of an f64. `ReadBack`: a number's text reads back as it.
 -- `Samples`: texts worked out by hand. `Only`: no second result.
 pub mod Pieces
+pub mod Lines
 pub mod Joined
 pub mod Lengths
 pub mod Digits

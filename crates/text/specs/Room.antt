@@ -15,7 +15,8 @@ placed o at s = let n = fitting o at s in take at o ++ take n s ++ drop (at + n)
 unfoldable pub after : List ℕ → ℕ → List ℕ → ℕ
 after o at s = at + fitting o at s
 
--- What every writer promises: it was lent the room o and a place in it, and s was to be written. It leaves the room as o', and answers r.
+-- What a call promises that is lent a room o and a place in it, where s is to be written: it leaves the room as o', and r is the place behind s. Of a line the
+-- same is said by `Writes` (specs/Lines.antt).
 pub record Written (o : List ℕ) (at : ℕ) (s o' : List ℕ) (r : ℕ) : Type 0 where
   pub room : o' ≡ placed o at s
   pub place : r ≡ after o at s

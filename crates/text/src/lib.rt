@@ -1,44 +1,86 @@
-// The text of the programs' lines, written piece by piece into a slice that the caller lends, its
-// room. A writer is given a place and answers the place behind what it wrote; where the room ends
-// first, the text is cut there (specs/Room.antt). What is written is said in specs/Texts.antt, and of
-// plain decimals, for people, in specs/Decimals.antt.
+// The text of the programs' lines, written piece by piece into a line: a room, which is a slice that
+// the caller lends, and the place in it where the next text goes. Where the room ends first, the text
+// is cut there (specs/Room.antt, specs/Lines.antt). What is written is said in specs/Texts.antt, and
+// of plain decimals, for people, in specs/Decimals.antt.
 #![tactic(auto)]
 
 mod plain;
 
 ghost use Rattle.std.specs.Prelude.{◌≡◌, [], ◌∷◌, ◌++◌, ◌<◌, ◌≤◌, length};
-ghost use Rattle.text.specs.Room.{Written};
+ghost use Rattle.text.specs.Lines.{Writes};
 ghost use Rattle.text.specs.Texts.{decimal_of, hex_digit, digits_in, hex_of, column_of};
 
-pub use plain::fixed;
-
-// Writes a string of bytes.
-pub fn bytes(src: &[u8], out: &mut [u8], at: usize) -> usize
-    ensures { Written out.old at src.now out.new result }
-{
-    if out.len() <= at {
-        return at;
-    }
-    let n = src.len().min(out.len() - at);
-    out[at..at + n].copy_from_slice(&src[..n]);
-    at + n
+// A room that is lent for text, and the place in it where the next text goes.
+#[derive(Drop)]
+pub struct Line<'a> {
+    room: &'a mut [u8],
+    at: usize,
 }
 
-// Writes n in decimal, and the byte that ends it.
-pub fn decimal(n: u64, end: u8, out: &mut [u8], at: usize) -> usize
-    ensures { Written out.old at (decimal_of n ++ end ∷ []) out.new result }
-{
-    let mut text = [end; 21];
-    let mut first = 20;
-    let mut left = n;
-    while left >= 10 {
-        first -= 1;
-        text[first] = (48 + left % 10) as u8;
-        left /= 10;
+impl<'a> Line<'a> {
+    // A line that begins at a place of its room.
+    pub fn new(room: &'a mut [u8], at: usize) -> Line<'a>
+        ensures same { result.room.ghost_name ≡ room.entry.ghost_name }
+        ensures start { (result.room.now ≡ room.old) × (result.at ≡ at) }
+    {
+        Line { room, at }
     }
-    first -= 1;
-    text[first] = (48 + left) as u8;
-    bytes(&text[first..], out, at)
+
+    // The place behind what is written.
+    pub fn end(&self) -> usize
+        ensures { result ≡ self.now.at }
+    {
+        self.at
+    }
+
+    // Writes a string of bytes.
+    pub fn bytes(&mut self, src: &[u8])
+        ensures { Writes self.old src.now self.new }
+    {
+        if self.at < self.room.len() {
+            let n = src.len().min(self.room.len() - self.at);
+            self.room[self.at..self.at + n].copy_from_slice(&src[..n]);
+            self.at += n;
+        }
+    }
+
+    // Writes n in decimal, and the byte that ends it.
+    pub fn decimal(&mut self, n: u64, end: u8)
+        ensures { Writes self.old (decimal_of n ++ end ∷ []) self.new }
+    {
+        let mut text = [end; 21];
+        let mut first = 20;
+        let mut left = n;
+        while left >= 10 {
+            first -= 1;
+            text[first] = (48 + left % 10) as u8;
+            left /= 10;
+        }
+        first -= 1;
+        text[first] = (48 + left) as u8;
+        self.bytes(&text[first..]);
+    }
+
+    // Writes 64 bits as 16 hexadecimal digits in lower case, and the byte that ends them.
+    pub fn hex(&mut self, bits: u64, end: u8)
+        ensures { Writes self.old (hex_of bits ++ end ∷ []) self.new }
+    {
+        let mut text = [end; 17];
+        fill_digits(16, bits, &mut text[..16]);
+        self.bytes(&text);
+    }
+
+    // Writes a column, and the byte that ends it: the bits of an f64 in hexadecimal, `nan`, or `-`
+    // where there is no value.
+    pub fn column(&mut self, c: Option<f64>, end: u8)
+        ensures { Writes self.old (column_of c ++ end ∷ []) self.new }
+    {
+        match c {
+            None => self.bytes(&[b'-', end]),
+            Some(x) if x.is_nan() => self.bytes(&[b'n', b'a', b'n', end]),
+            Some(x) => self.hex(x.to_bits(), end),
+        }
+    }
 }
 
 // A hexadecimal digit, 0 to 9 and a to f.
@@ -64,27 +106,4 @@ fn fill_digits(base: u64, n: u64, text: &mut [u8])
         text[i] = hex_digit(left % base);
         left /= base;
     }
-}
-
-// Writes 64 bits as 16 hexadecimal digits in lower case, and the byte that ends them.
-pub fn hex(bits: u64, end: u8, out: &mut [u8], at: usize) -> usize
-    ensures { Written out.old at (hex_of bits ++ end ∷ []) out.new result }
-{
-    let mut text = [end; 17];
-    fill_digits(16, bits, &mut text[..16]);
-    bytes(&text, out, at)
-}
-
-// Writes a column of a line, and the byte that ends it: the bits of an f64 in hexadecimal, `nan`,
-// or `-` where there is no value.
-pub fn column(c: Option<f64>, end: u8, out: &mut [u8], at: usize) -> usize
-    ensures { Written out.old at (column_of c ++ end ∷ []) out.new result }
-{
-    let Some(x) = c else {
-        return bytes(&[b'-', end], out, at);
-    };
-    if x.is_nan() {
-        return bytes(&[b'n', b'a', b'n', end], out, at);
-    }
-    hex(x.to_bits(), end, out, at)
 }

@@ -2,8 +2,10 @@
 ghost use Rattle.std.specs.Prelude.{◌≡◌, [], ◌∷◌, ◌++◌, cond, ◌*◌, ◌%◌, ◌^◌, ◌<◌, ◌≤◌, leb};
 ghost use Rattle.std.specs.Float.{binary64};
 ghost use Rattle.std.specs.Float.Ieee.{of_bits};
-ghost use Rattle.text.specs.Room.{Written};
+ghost use Rattle.text.specs.Lines.{Writes};
 ghost use Rattle.text.specs.Decimals.{modest, scaled_of, digits_from, pointed_of, fixed_of};
+
+use super::Line;
 
 // Whether x lies between -2^53 and 2^53. No infinity and no NaN does.
 fn is_modest(x: f64) -> bool
@@ -34,50 +36,53 @@ fn scaled(bits: u64, scale: u64) -> u64
     (digits * scale + unit / 2) / unit
 }
 
-// Writes the last k digits of n, and the byte that ends them.
-fn last_digits(n: u64, k: usize, end: u8, out: &mut [u8], at: usize) -> usize
-    requires { k ≤ 3 }
-    ensures { Written out.old at (digits_from k n ++ end ∷ []) out.new result }
-{
-    let mut text = [end; 4];
-    super::fill_digits(10, n, &mut text[..k]);
-    super::bytes(&text[..k + 1], out, at)
-}
-
-// Writes n / 10^k with its k decimals, and the byte that ends them.
-fn pointed(n: u64, k: usize, end: u8, out: &mut [u8], at: usize) -> usize
-    requires { k ≤ 3 }
-    ensures { Written out.old at (pointed_of k n ++ end ∷ []) out.new result }
-{
-    if k == 0 {
-        return super::decimal(n, end, out, at);
+impl Line<'_> {
+    // Writes the last k digits of n, and the byte that ends them.
+    fn last_digits(&mut self, n: u64, k: usize, end: u8)
+        requires { k ≤ 3 }
+        ensures { Writes self.old (digits_from k n ++ end ∷ []) self.new }
+    {
+        let mut text = [end; 4];
+        super::fill_digits(10, n, &mut text[..k]);
+        self.bytes(&text[..k + 1]);
     }
-    let point = super::decimal(n / power_of_ten(k), b'.', out, at);
-    last_digits(n, k, end, out, point)
-}
 
-// Writes `-` where the bits are those of a number below zero.
-fn sign(bits: u64, out: &mut [u8], at: usize) -> usize
-    ensures { Written out.old at (cond (leb (2 ^ 63) bits) (45 ∷ []) []) out.new result }
-{
-    if bits >= 0x8000_0000_0000_0000 {
-        return super::bytes(b"-", out, at);
+    // Writes n / 10^k with its k decimals, and the byte that ends them.
+    fn pointed(&mut self, n: u64, k: usize, end: u8)
+        requires { k ≤ 3 }
+        ensures { Writes self.old (pointed_of k n ++ end ∷ []) self.new }
+    {
+        if k == 0 {
+            self.decimal(n, end);
+        } else {
+            self.decimal(n / power_of_ten(k), b'.');
+            self.last_digits(n, k, end);
+        }
     }
-    at
-}
 
-// Writes x with so many decimals, at most three, rounded to the nearest on its exact value, a half
-// away from zero, and the byte that ends it. NaN, an infinity and what is 2^53 or more in size stand
-// as in a column.
-pub fn fixed(x: f64, places: usize, end: u8, out: &mut [u8], at: usize) -> usize
-    ensures { Written out.old at (fixed_of x places ++ end ∷ []) out.new result }
-{
-    if !is_modest(x) {
-        return super::column(Some(x), end, out, at);
+    // Writes `-` where the bits are those of a number below zero.
+    fn sign(&mut self, bits: u64)
+        ensures { Writes self.old (cond (leb (2 ^ 63) bits) (45 ∷ []) []) self.new }
+    {
+        if bits >= 0x8000_0000_0000_0000 {
+            self.bytes(b"-");
+        }
     }
-    let k = places.min(3);
-    let bits = x.to_bits();
-    let n = scaled(bits, power_of_ten(k));
-    let front = sign(bits, out, at);
-    pointed(n, k, end, out, front)
+
+    // Writes x with so many decimals, at most three, rounded to the nearest on its exact value, a half
+    // away from zero, and the byte that ends it. NaN, an infinity and what is 2^53 or more in size
+    // stand as in a column.
+    pub fn fixed(&mut self, x: f64, places: usize, end: u8)
+        ensures { Writes self.old (fixed_of x places ++ end ∷ []) self.new }
+    {
+        if is_modest(x) {
+            let k = places.min(3);
+            let bits = x.to_bits();
+            let n = scaled(bits, power_of_ten(k));
+            self.sign(bits);
+            self.pointed(n, k, end);
+        } else {
+            self.column(Some(x), end);
+        }
+    }
 }

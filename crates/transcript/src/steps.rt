@@ -10,6 +10,7 @@ use call_lines::told;
 use desk::{Desk, Outcome};
 use desk_lines::shown;
 use records::{Call, Deed, desk_in, read};
+use text::Line;
 use turns::turns;
 
 // What the desk answers to a call, and the desk that it leaves.
@@ -50,11 +51,20 @@ pub fn play(rest: &[u8], number: u64, d: Desk, out: &mut [u8]) -> Step
         }
         Some(Deed::Turns(n)) => {
             let t = turns(d, n);
-            let end = turned(number, number_if(t.refusal), t.halved, t.idle, out);
-            stepped(t.desk, 48, end)
+            let mut line = Line::new(out, 0);
+            turned(number, number_if(t.refusal), t.halved, t.idle, &mut line);
+            stepped(t.desk, 48, line.end())
         }
-        Some(Deed::Given) => stepped(desk_in(rest), 2936, opened(number, b"desk\n", out)),
+        Some(Deed::Given) => {
+            let mut line = Line::new(out, 0);
+            opened(number, b"desk\n", &mut line);
+            stepped(desk_in(rest), 2936, line.end())
+        }
         Some(Deed::Shown) => stepped(d, 48, shown(number, d, out)),
-        None => stepped(d, rest.len(), opened(number, b"bad record\n", out)),
+        None => {
+            let mut line = Line::new(out, 0);
+            opened(number, b"bad record\n", &mut line);
+            stepped(d, rest.len(), line.end())
+        }
     }
 }

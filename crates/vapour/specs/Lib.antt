@@ -1,1 +1,2 @@
 pub mod Vapour
+pub mod Walks

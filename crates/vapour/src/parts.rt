@@ -4,6 +4,7 @@ ghost use Rattle.std.specs.Prelude.{◌≡◌, List, Float};
 ghost use Rattle.terms.specs.Sum.{Term, rows_of, sum_of};
 ghost use Rattle.terms.specs.Six.{six_of};
 ghost use Rattle.vapour.specs.Vapour.{vapour_at, vapour_unrooted};
+ghost use Rattle.vapour.specs.Walks.{by_pi, by_tau};
 
 use crate::{Vapour, added, gibbs};
 use properties::{Point, enthalpy, entropy};
@@ -51,11 +52,74 @@ fn ideal_both<V: Parts>(x: Point) -> Six
     V::ideal().six(x.pi, x.tau)
 }
 
-// The same of the sum of the residual part.
+// The same of the sum of the residual part. Its six sums are taken three by three, each three in a frame of
+// their own, so that the products that they share take less than two KiB of stack (bench/stack).
 fn residual_six<V: Parts>(x: Point) -> Six
     ensures { result ≡ six_of V.residual x.pi (V.shifted x.tau) }
 {
+    let by_pi = residual_by_pi::<V>(x);
+    let by_tau = residual_by_tau::<V>(x);
+    Six {
+        f: by_pi.sum,
+        fa: by_pi.first,
+        faa: by_pi.second,
+        fb: by_tau.first,
+        fbb: by_tau.second,
+        fab: by_tau.mixed,
+    }
+}
+
+// A sum and its derivatives by π.
+#[derive(Clone, Copy)]
+struct ByPi {
+    sum: f64,
+    first: f64,
+    second: f64,
+}
+
+// Its derivatives by τ, and by both.
+#[derive(Clone, Copy)]
+struct ByTau {
+    first: f64,
+    second: f64,
+    mixed: f64,
+}
+
+// What each of these three takes of the walk, by a function of its own, as above.
+fn residual_for_pi<V: Parts>(x: Point) -> Six
+    ensures { result ≡ six_of V.residual x.pi (V.shifted x.tau) }
+{
     V::residual().six(x.pi, V::shifted(x.tau))
+}
+
+fn residual_for_tau<V: Parts>(x: Point) -> Six
+    ensures { result ≡ six_of V.residual x.pi (V.shifted x.tau) }
+{
+    V::residual().six(x.pi, V::shifted(x.tau))
+}
+
+#[inline(never)]
+fn residual_by_pi<V: Parts>(x: Point) -> ByPi
+    ensures { result ≡ by_pi (six_of V.residual x.pi (V.shifted x.tau)) }
+{
+    let s = residual_for_pi::<V>(x);
+    ByPi {
+        sum: s.f,
+        first: s.fa,
+        second: s.faa,
+    }
+}
+
+#[inline(never)]
+fn residual_by_tau<V: Parts>(x: Point) -> ByTau
+    ensures { result ≡ by_tau (six_of V.residual x.pi (V.shifted x.tau)) }
+{
+    let s = residual_for_tau::<V>(x);
+    ByTau {
+        first: s.fb,
+        second: s.fbb,
+        mixed: s.fab,
+    }
 }
 
 fn residual_slope<V: Parts>(x: Point) -> f64

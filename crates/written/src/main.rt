@@ -10,6 +10,7 @@ ghost use Rattle.listing.specs.Listings.{longest};
 ghost use Rattle.written.specs.Written.{answer_text, written_text};
 
 use std::io;
+use text::Line;
 
 // No sheet is longer.
 const ROOM: usize = listing::LONGEST;
@@ -37,7 +38,11 @@ fn answered(note: &[u8], rows: &[u8], most: usize, room: &mut [u8]) -> usize
 {
     match sheet_writer::write(note, rows, &mut room[..most]) {
         Ok(length) => length,
-        Err(refusal) => row_lines::refused(refusal.number(), room),
+        Err(refusal) => {
+            let mut line = Line::new(room, 0);
+            row_lines::refused(refusal.number(), &mut line);
+            line.end()
+        }
     }
 }
 

@@ -4,19 +4,19 @@ use mathlib.Core.Path.{sym, ap, ◌∙◌}
 use mathlib.Core.List.{[], ◌∷◌, ◌++◌}
 use lib.ListN.{replicate}
 use Rattle.text.specs.Texts.{decimal_of}
-use Rattle.text.proofs.Pieces.{said}
+use Rattle.text.proofs.Lines.{said_line}
 use Rattle.call_lines.specs.Lines.{width_of, handed_of, line_of, answer_of}
 use Rattle.call_lines.proofs.Pieces.{of_given}
 use Rattle.call_lines.proofs.answered.Goals as goal
 
 pub returns-in-Ok : goal.returns-in-Ok
 returns-in-Ok c =
-    said (of_given c.args.call _ ∙ ap (answer_of c.args.call) (sym c.in-Ok.is)) c.handed.ensures
+    said_line (of_given c.args.call _ ∙ ap (answer_of c.args.call) (sym c.in-Ok.is)) c.handed.ensures
 
 pub returns-in-Err : goal.returns-in-Err
 unfolding answer_of handed_of
 returns-in-Err c =
     let a = c.args in
-    said
+    said_line
     (ap (λ (n : ℕ). decimal_of n ++ line_of (replicate (width_of a.call) (45 ∷ []))) c.number.ensures ∙ ap (answer_of a.call) (sym c.in-Err.is))
     c.refused.ensures

@@ -1,7 +1,6 @@
 -- `call_lines::bracket` meets its contract: a number and two columns, one behind the other. Assumes nothing.
-use Rattle.text.proofs.Pieces.{then}
+use Rattle.text.proofs.Lines.{then_line}
 use Rattle.call_lines.proofs.bracket.Goals as goal
 
 pub returns : goal.returns
-returns c =
-    then (then c.decimal-at.ensures c.column-at.ensures) c.column.ensures
+returns c = then_line (then_line c.decimal.ensures c.column.ensures) c.column-2.ensures

@@ -4,7 +4,7 @@ use mathlib.Core.Path.{◌≡◌, refl, sym, ap, ◌∙◌}
 use mathlib.Core.List.{List, [], ◌∷◌, ◌++◌}
 use mathlib.Core.Logic.{◌⊎◌, inl, inr}
 use Rattle.text.specs.Texts.{decimal_of, value_of, newline}
-use Rattle.text.proofs.Pieces.{said, reads}
+use Rattle.text.proofs.Lines.{said_line, reads_line}
 use Rattle.runs.specs.declared.Answer.{Answer}
 use Rattle.runs.specs.declared.Answer.TheVariants.{Halved, Idle, Freed}
 use Rattle.call_lines.specs.Lines.{state_columns, line_of, given_of}
@@ -19,19 +19,19 @@ no_more a (inr (inr e)) = of_freed ∙ ap given_of (sym e)
 
 pub returns-in-Ticket : goal.returns-in-Ticket
 returns-in-Ticket c =
-    said (of_ticket _ ∙ ap given_of (sym c.in-Ticket.is)) c.ticket.ensures
+    said_line (of_ticket _ ∙ ap given_of (sym c.in-Ticket.is)) c.ticket.ensures
 
 pub returns-in-Shown : goal.returns-in-Shown
 returns-in-Shown c =
-    said (of_bracket _ _ _ ∙ ap given_of (sym c.in-Shown.is)) c.peeked.ensures
+    said_line (of_bracket _ _ _ ∙ ap given_of (sym c.in-Shown.is)) c.peeked.ensures
 
 pub returns-in-State : goal.returns-in-State
 returns-in-State c =
     let a = c.in-State in
     let columns : List (List ℕ) = state_columns a.settled.single ++ decimal_of a.number ∷ value_of a.lo ∷ value_of a.hi ∷ [] in
-    let line = reads {t = 48 ∷ line_of columns} c.collected.ensures refl in
-    said (of_state _ _ _ _ ∙ ap given_of (sym a.is)) line
+    let line = reads_line {t = 48 ∷ line_of columns} c.collected.ensures refl in
+    said_line (of_state _ _ _ _ ∙ ap given_of (sym a.is)) line
 
 pub returns-in-Halved : goal.returns-in-Halved
 returns-in-Halved c =
-    said (no_more _ c.in-Halved.is) c.bytes.ensures
+    said_line (no_more _ c.in-Halved.is) c.bytes.ensures

@@ -6,7 +6,7 @@ use borrow.Author.Tests.{not-true, not-false}
 use Rattle.text.specs.Texts.{blank, newline, number_column, float_column}
 use Rattle.ledger.specs.declared.Row.{Row}
 use Prim.Native.Nat.{ℕ}
-use Rattle.text.proofs.Pieces.{none, then, said, kept}
+use Rattle.text.proofs.Lines.{nothing_line, then_line, said_line}
 use Rattle.desk_lines.specs.Lines.{row_line}
 use Rattle.desk_lines.proofs.row_line.Goals as goal
 
@@ -37,16 +37,13 @@ full i r e = simp (not-false r.filled e)
 
 pub returns-then-not-r : goal.returns-then-not-r
 unfolding row_line
-returns-then-not-r c = let a = c.args in said (empty a.i a.r c.if-not-r.true) (none _ _)
+returns-then-not-r c = let a = c.args in said_line (empty a.i a.r c.if-not-r.true) nothing_line
 
 pub returns : goal.returns
 unfolding row_line
 returns c =
     let a = c.args in
-    let holder = then (then (then c.bytes-at.ensures c.decimal-at.ensures) c.decimal-at-2.ensures) c.decimal-at-3.ensures in
-    let query = then (then (then (then holder c.decimal-at-4.ensures) c.decimal-at-5.ensures) c.column-at.ensures) c.column-at-2.ensures in
-    said (full a.i a.r c.if-not-r.false)
-    (then (then (then (then query c.decimal-at-6.ensures) c.decimal-at-7.ensures) c.column-at-3.ensures) c.column.ensures)
-
-pub shape_of-out : goal.shape_of-out
-shape_of-out c = kept (returns c)
+    let holder = then_line (then_line (then_line c.bytes.ensures c.decimal.ensures) c.decimal-2.ensures) c.decimal-3.ensures in
+    let query = then_line (then_line (then_line (then_line holder c.decimal-4.ensures) c.decimal-5.ensures) c.column.ensures) c.column-2.ensures in
+    said_line (full a.i a.r c.if-not-r.false)
+    (then_line (then_line (then_line (then_line query c.decimal-6.ensures) c.decimal-7.ensures) c.column-3.ensures) c.column-4.ensures)

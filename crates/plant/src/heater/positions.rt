@@ -1,4 +1,5 @@
 // The places of the heater, and what its lines call them.
+use text::Line;
 
 #[derive(Clone, Copy)]
 pub(crate) enum Place {
@@ -8,11 +9,11 @@ pub(crate) enum Place {
     WaterOut,
 }
 
-pub(crate) fn title(place: Place, out: &mut [u8], at: usize) -> usize {
+pub(crate) fn title(place: Place, line: &mut Line<'_>) {
     match place {
-        Place::WaterIn => text::bytes(b"  heater water in: ", out, at),
-        Place::BledSteam => text::bytes(b"  heater bled steam: ", out, at),
-        Place::Drain => text::bytes(b"  heater drain: ", out, at),
-        Place::WaterOut => text::bytes(b"  heater water out: ", out, at),
+        Place::WaterIn => line.bytes(b"  heater water in: "),
+        Place::BledSteam => line.bytes(b"  heater bled steam: "),
+        Place::Drain => line.bytes(b"  heater drain: "),
+        Place::WaterOut => line.bytes(b"  heater water out: "),
     }
 }

@@ -1,4 +1,5 @@
 // The places of the turbine, and what its lines call them.
+use text::Line;
 
 // Where in the turbine a state is. A stage, by its number, has two ends: the one of an ideal expansion,
 // which no steam reaches, and its own.
@@ -10,16 +11,16 @@ pub(crate) enum Place {
 }
 
 // The title of a stage, its number with the byte after it and what else follows.
-fn stage_title(stage: u64, after: u8, rest: &[u8], out: &mut [u8], at: usize) -> usize {
-    let n = text::bytes(b"  turbine stage ", out, at);
-    let n = text::decimal(stage, after, out, n);
-    text::bytes(rest, out, n)
+fn stage_title(stage: u64, after: u8, rest: &[u8], line: &mut Line<'_>) {
+    line.bytes(b"  turbine stage ");
+    line.decimal(stage, after);
+    line.bytes(rest);
 }
 
-pub(crate) fn title(place: Place, out: &mut [u8], at: usize) -> usize {
+pub(crate) fn title(place: Place, line: &mut Line<'_>) {
     match place {
-        Place::Inlet => text::bytes(b"  turbine inlet: ", out, at),
-        Place::IdealEnd(stage) => stage_title(stage, b' ', b"ideal: ", out, at),
-        Place::StageEnd(stage) => stage_title(stage, b':', b" ", out, at),
+        Place::Inlet => line.bytes(b"  turbine inlet: "),
+        Place::IdealEnd(stage) => stage_title(stage, b' ', b"ideal: ", line),
+        Place::StageEnd(stage) => stage_title(stage, b':', b" ", line),
     }
 }

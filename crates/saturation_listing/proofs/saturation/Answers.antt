@@ -5,7 +5,8 @@ use mathlib.Core.Bool.{Bool, true, false}
 use mathlib.Core.List.{List, ◌++◌}
 use lib.ListN.{length}
 use Rattle.text.specs.Texts.{joined}
-use Rattle.text.proofs.Pieces.{then, reads}
+use Rattle.std.proofs.Common.{rules}
+use Rattle.text.proofs.Lines.{then_line, reads_line, lent}
 use Rattle.saturation_listing.specs.Listing.{bad_length, bad_line, header, line_at, saturation_text}
 use Rattle.saturation_listing.proofs.saturation.Goals as goal
 
@@ -21,9 +22,9 @@ rows s e h = rw (← e, h) refl
 pub returns-then-bad : goal.returns-then-bad
 unfolding bad_line
 returns-then-bad c =
-    reads c.bytes.ensures (refusal _ c.bad.ensures c.if-bad.true)
+    lent (search rules) c.end.ensures c.new-line.ensures.start (reads_line c.bytes.ensures (refusal _ c.bad.ensures c.if-bad.true))
 
 pub returns : goal.returns
 unfolding header
 returns c =
-    reads (then c.bytes-at.ensures c.lines.ensures) (rows _ c.bad.ensures c.if-bad.false)
+    lent (search rules) c.end-2.ensures c.new-line.ensures.start (reads_line (then_line c.bytes-2.ensures c.lines.ensures) (rows _ c.bad.ensures c.if-bad.false))

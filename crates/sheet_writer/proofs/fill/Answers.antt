@@ -6,7 +6,8 @@ use lib.ListN.{length}
 use native.Mathlib.Omega.{arith}
 use Rattle.versions.specs.Versions.{version_for}
 use Rattle.versions.proofs.VersionLaws.{version_small}
-use Rattle.text.proofs.Pieces.{then, said}
+use Rattle.std.proofs.Common.{rules}
+use Rattle.text.proofs.Lines.{then_line, said_line, lent}
 use Rattle.sheet_writer.specs.Write.{trailer_bytes, sheet_of}
 use Rattle.sheet_writer.proofs.fill.Goals as goal
 
@@ -21,4 +22,5 @@ returns c =
     let last : c.as_flattened.result.now ≡ trailer_bytes n (version_for n) =
     c.as_flattened.ensures.value
     ∙ rw (c.u32_bytes.ensures, c.u32_bytes-2.ensures, c.u32_bytes-3.ensures, c.u32_bytes-4.ensures, c.version_for.ensures) refl in
-    (said (ap (λ (l : List ℕ). a.note.now ++ a.rows.now ++ l) last) (then (then c.bytes-at.ensures c.bytes-at-2.ensures) c.bytes.ensures)).room
+    (lent (search rules) refl c.new-line.ensures.start
+    (said_line (ap (λ (l : List ℕ). a.note.now ++ a.rows.now ++ l) last) (then_line (then_line c.bytes.ensures c.bytes-2.ensures) c.bytes-3.ensures))).room

@@ -1,15 +1,21 @@
 -- `written::answered` meets its contract: the sheet, or the line of a refusal, stands whole in the room. Assumes nothing.
-use mathlib.Core.Path.{sym, ap, subst, ◌∙◌}
+use mathlib.Core.Path.{◌≡◌, sym, ap, subst, ◌∙◌}
 use mathlib.Core.List.{List}
 use Prim.Native.Nat.{ℕ}
 use native.Mathlib.Omega.{arith}
 use lib.ListN.{length, take, drop, length-append, length-drop}
 use lib.Seq.{length-take-le}
 use Rattle.text.specs.Room.{Whole}
+use Rattle.std.proofs.Common.{rules}
 use Rattle.text.proofs.Pieces.{uncut}
+use Rattle.text.proofs.Lines.{lent}
 use Rattle.row_lines.proofs.Fits.{refused_short}
 use Rattle.written.proofs.Laws.{answered, refusal, room_kept}
 use Rattle.written.proofs.answered.Goals as goal
+
+-- the same text, said otherwise
+reads_whole : {o s t : List ℕ} {p : ℕ} → s ≡ t → Whole o s p → Whole o t p
+reads_whole {o} {s} {t} {p} e x = subst (λ (l : List ℕ). Whole o l p) e x
 
 pub slice_bounds-write-end-2 : goal.slice_bounds-write-end-2
 slice_bounds-write-end-2 c = sym (length-take-le c.args.most c.args.room.now (omega arith))
@@ -32,6 +38,6 @@ returns-in-Err c =
     let answer = sym c.in-Err.is ∙ c.write.ensures.0 in
     let kept = room_kept note rows (take most room) answer c.write.ensures.1 in
     let whole = length-append c.write.new.out (drop most room) in
-    subst (λ (t : List ℕ). Whole c.refused.new.out t c.refused.result)
+    reads_whole
     (refusal note rows (take most room) size answer c.number.ensures)
-    (uncut c.refused.ensures (omega (arith, refused_short c.number.result, whole, ap length kept, size, length-drop most room, c.requires.1)))
+    (uncut (lent (search rules) c.end.ensures c.new-line.ensures.start c.refused.ensures) (omega (arith, refused_short c.number.result, whole, ap length kept, size, length-drop most room, c.requires.1)))

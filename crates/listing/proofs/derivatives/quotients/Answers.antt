@@ -7,8 +7,9 @@ use mathlib.Core.List.{List, []}
 use lib.Dec.{ltb}
 use lib.ListN.{take}
 use borrow.Author.Tests.{lt-ltb, le-ltb}
-use Rattle.std.proofs.Common.{Result, Ok}
+use Rattle.std.proofs.Common.{Result, Ok, rules}
 use Rattle.text.proofs.Pieces.{none, said}
+use Rattle.text.proofs.Lines.{said_line, lent}
 use Rattle.refusals.specs.declared.Refusal.{Refusal}
 use Rattle.sheet.specs.Rows.{row_of}
 use Rattle.sheet.specs.declared.reader.Rows.{Rows}
@@ -34,11 +35,12 @@ returns-in-Err c =
 pub returns-then-k-rows : goal.returns-then-k-rows
 returns-then-k-rows c =
     let a = c.args in
-    said
-    (ap (λ (x : Point). quotient_lines (a.k + 1) x c.note.result.now) c.row.ensures
+    lent (search rules) c.end.ensures c.new-line.ensures.start
+    (said_line
+    (ap (λ (x : Point). quotient_lines (a.k + 1) x c.note.result.now) c.row-row.ensures
     ∙ ap (quotient_lines (a.k + 1) _) c.note.ensures
     ∙ shown _ _ _ _ true c.in-Ok.is (lt-ltb _ _ c.if-k-rows.true))
-    c.lines.ensures
+    c.lines.ensures)
 
 pub returns-else-k-rows : goal.returns-else-k-rows
 returns-else-k-rows c = said (shown _ _ _ _ false c.in-Ok.is (le-ltb _ _ c.if-k-rows.false)) (none _ _)

@@ -2,7 +2,7 @@
 use Prim.Native.Nat.{ℕ}
 use mathlib.Core.Path.{ap}
 use mathlib.Core.List.{[], ◌∷◌, ◌++◌}
-use Rattle.text.proofs.Pieces.{then, said}
+use Rattle.text.proofs.Lines.{then_line, said_line}
 use Rattle.reply.specs.Answers.{values_of}
 use Rattle.reply.specs.declared.Answer.{Answer}
 use Rattle.refusals.specs.declared.Refusal.{Refusal}
@@ -15,6 +15,6 @@ pub returns : goal.returns
 unfolding answer_line
 returns c =
     let a = c.args in
-    said
+    said_line
     (ap (λ (x : Result Answer Refusal). verdict_of a.number a.row.kind x blank ++ (mark_byte x ∷ blank ∷ []) ++ value_columns (values_of x)) c.asked-a.ensures)
-    (then (then c.verdict-at.ensures (said (ap (λ (m : ℕ). m ∷ blank ∷ []) c.mark.ensures) c.bytes-at.ensures)) c.values.ensures)
+    (then_line (then_line c.verdict.ensures (said_line (ap (λ (m : ℕ). m ∷ blank ∷ []) c.mark.ensures) c.bytes.ensures)) c.values.ensures)

@@ -4,7 +4,7 @@ use mathlib.Core.Path.{◌≡◌, ap}
 use mathlib.Core.List.{List, [], ◌∷◌, ◌++◌}
 use lib.Ieee.{Float}
 use Rattle.text.specs.Texts.{column_of, blank, newline, number_column}
-use Rattle.text.proofs.Pieces.{then, said}
+use Rattle.text.proofs.Lines.{then_line, said_line}
 use Rattle.sums.specs.Quotients.{quotient_of}
 use Rattle.refusals.specs.Refusals.{number_in}
 use Rattle.refusals.specs.declared.Refusal.{Refusal}
@@ -27,10 +27,10 @@ pub returns : goal.returns
 unfolding quotient_line
 returns c =
     let a = c.args in
-    said
+    said_line
     (ap (columns a.number a.z a.x a.y) (at_bits a.row.kind a.z a.x a.y c.quotient-q.ensures c.float_of-c.ensures c.float_of-d.ensures))
-    (then
-    (then
-    (then (then (then c.decimal-at.ensures c.decimal-at-2.ensures) c.decimal-at-3.ensures) c.decimal-at-4.ensures)
-    (said (ap (λ (n : ℕ). number_column n blank) c.number.ensures) c.decimal-at-5.ensures))
-    (said (ap (λ (x : Option Float). column_of x ++ newline ∷ []) c.ok.ensures.value) c.column.ensures))
+    (then_line
+    (then_line
+    (then_line (then_line (then_line c.decimal.ensures c.decimal-2.ensures) c.decimal-3.ensures) c.decimal-4.ensures)
+    (said_line (ap (λ (n : ℕ). number_column n blank) c.number.ensures) c.decimal-5.ensures))
+    (said_line (ap (λ (x : Option Float). column_of x ++ newline ∷ []) c.ok.ensures.value) c.column.ensures))

@@ -1,7 +1,6 @@
 -- `transcript::lines::opened` meets its contract: a number and words, one behind the other. Assumes nothing.
-use Rattle.text.proofs.Pieces.{then}
+use Rattle.text.proofs.Lines.{then_line}
 use Rattle.transcript.proofs.lines.opened.Goals as goal
 
 pub returns : goal.returns
-returns c =
-    then c.decimal-at.ensures c.bytes.ensures
+returns c = then_line c.decimal.ensures c.bytes.ensures

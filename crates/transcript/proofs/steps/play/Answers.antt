@@ -1,7 +1,9 @@
 -- `transcript::steps::play` meets its contract: what each way of reading a record does. Assumes nothing.
 use Prim.Native.Nat.{ℕ}
 use mathlib.Core.Path.{sym, ap, ◌∙◌}
+use Rattle.std.proofs.Common.{rules}
 use Rattle.text.proofs.Pieces.{said, behind}
+use Rattle.text.proofs.Lines.{lent}
 use Rattle.runs.specs.declared.Outcome.{Outcome}
 use Rattle.transcript.specs.declared.Step.{Step}
 use Rattle.turns.specs.declared.Turned.{Turned}
@@ -34,7 +36,7 @@ returns-in-Some-Turns c =
         desk = ap (λ (s : Step). s.desk) r ∙ ap (λ (t : Turned). t.desk) c.turns-t.ensures ∙ ap (desk_after a.rest.now a.d) e;
         taken = ap (λ (s : Step). s.taken) r ∙ ap (taken_by a.rest.now) e;
       },
-      behind (sym (ap (λ (s : Step). s.end) r)) (said (ap (λ (n : ℕ). turns_line a.number n c.turns-t.result.halved c.turns-t.result.idle) c.number_if.ensures ∙ ap (turns_text a.number) c.turns-t.ensures ∙ ap (text_of a.number a.d) e) c.turned-end.ensures),
+      behind (sym (ap (λ (s : Step). s.end) r)) (said (ap (λ (n : ℕ). turns_line a.number n c.turns-t.result.halved c.turns-t.result.idle) c.number_if.ensures ∙ ap (turns_text a.number) c.turns-t.ensures ∙ ap (text_of a.number a.d) e) (lent (search rules) c.end.ensures c.new-line.ensures.start c.turned.ensures)),
     )
 
 pub returns-in-Some-Given : goal.returns-in-Some-Given
@@ -47,7 +49,7 @@ returns-in-Some-Given c =
         desk = ap (λ (s : Step). s.desk) r ∙ c.desk_in.ensures ∙ ap (desk_after a.rest.now a.d) e;
         taken = ap (λ (s : Step). s.taken) r ∙ ap (taken_by a.rest.now) e;
       },
-      behind (sym (ap (λ (s : Step). s.end) r)) (said (ap (text_of a.number a.d) e) c.opened.ensures),
+      behind (sym (ap (λ (s : Step). s.end) r)) (said (ap (text_of a.number a.d) e) (lent (search rules) c.end-in-Some-Given.ensures c.new-line-in-Some-Given.ensures.start c.opened.ensures)),
     )
 
 pub returns-in-Some-Shown : goal.returns-in-Some-Shown
@@ -73,5 +75,5 @@ returns-in-None c =
         desk = ap (λ (s : Step). s.desk) r ∙ ap (desk_after a.rest.now a.d) e;
         taken = ap (λ (s : Step). s.taken) r ∙ ap (taken_by a.rest.now) e;
       },
-      behind (sym (ap (λ (s : Step). s.end) r)) (said (ap (text_of a.number a.d) e) c.opened-in-None.ensures),
+      behind (sym (ap (λ (s : Step). s.end) r)) (said (ap (text_of a.number a.d) e) (lent (search rules) c.end-in-None.ensures c.new-line-in-None.ensures.start c.opened-in-None.ensures)),
     )

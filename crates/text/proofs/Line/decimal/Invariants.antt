@@ -1,11 +1,11 @@
--- `text::decimal` meets its contract. The invariant: the digits left to be written, with what stands behind them, are the whole text (`decimal_next`
+-- `text::Line::decimal` meets its contract. The invariant: the digits left to be written, with what stands behind them, are the whole text (`decimal_next`
 -- moves one digit over), and there is a place for each. The measure is how many places are left. Assumes nothing.
 use Prim.Native.Nat.{◌^◌, ◌≤◌, ◌<◌}
 use mathlib.Core.Path.{◌≡◌}
 use mathlib.Core.List.{[], ◌∷◌, ◌++◌}
 use lib.ListN.{length, drop}
 use Rattle.text.specs.Texts.{decimal_from, decimal_of}
-use Rattle.text.proofs.decimal.Given as goal
+use Rattle.text.proofs.Line.decimal.Given as goal
 
 abbrev pub invariant-loop-left : goal.invariant-loop-left
 invariant-loop-left l =

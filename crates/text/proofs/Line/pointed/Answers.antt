@@ -1,4 +1,4 @@
--- `text::plain::pointed` meets its contract: the whole part and the point, and behind them the last k digits. Assumes nothing.
+-- `text::Line::pointed` meets its contract: the whole part and the point, and behind them the last k digits. Assumes nothing.
 use mathlib.Core.Path.{◌≡◌, refl, sym, ap, ◌∙◌, subst}
 use mathlib.Core.List.{[], ◌∷◌, ◌++◌, append_assoc}
 use Prim.Native.Nat.{ℕ, zero, suc, ◌/◌, ◌^◌, ◌<◌}
@@ -6,8 +6,8 @@ use native.Mathlib.Nat.{pow-le-pow_right}
 use native.Mathlib.Omega.{arith}
 use Rattle.text.specs.Texts.{decimal_of}
 use Rattle.text.specs.Decimals.{digits_from, pointed_of}
-use Rattle.text.proofs.Pieces.{then, said}
-use Rattle.text.proofs.plain.pointed.Goals as goal
+use Rattle.text.proofs.Lines.{then_line, said_line}
+use Rattle.text.proofs.Line.pointed.Goals as goal
 
 no-point : (k n end : ℕ) → k ≡ 0 → decimal_of n ++ end ∷ [] ≡ pointed_of k n ++ end ∷ []
 unfolding pointed_of
@@ -22,14 +22,14 @@ with-point (suc k) n scale end h e =
 pub returns-then-k-eq0 : goal.returns-then-k-eq0
 returns-then-k-eq0 c =
     let a = c.args in
-    said (no-point a.k a.n a.end (omega arith)) c.decimal.ensures
+    said_line (no-point a.k a.n a.end (omega arith)) c.decimal.ensures
 
 pub nonzero_div-n : goal.nonzero_div-n
 nonzero_div-n c =
     subst (λ (s : ℕ). 0 < s) (sym c.power_of_ten.ensures)
     (pow-le-pow_right {n = 10} (omega arith) {i = 0} {j = c.args.k} (omega arith))
 
-pub returns : goal.returns
-returns c =
+pub returns-else-k-eq0 : goal.returns-else-k-eq0
+returns-else-k-eq0 c =
     let a = c.args in
-    said (with-point a.k a.n _ a.end c.if-k-eq0.false c.power_of_ten.ensures) (then c.decimal-point.ensures c.last_digits.ensures)
+    said_line (with-point a.k a.n _ a.end c.if-k-eq0.false c.power_of_ten.ensures) (then_line c.decimal-else-k-eq0.ensures c.last_digits.ensures)

@@ -1,4 +1,4 @@
--- `text::decimal` meets its contract. The invariant: the digits left to be written, with what stands behind them, are the whole text (`decimal_next`
+-- `text::Line::decimal` meets its contract. The invariant: the digits left to be written, with what stands behind them, are the whole text (`decimal_next`
 -- moves one digit over), and there is a place for each. The measure is how many places are left. Assumes nothing.
 use Prim.Native.Nat.{ℕ, ◌+◌, ◌-◌, ◌≤◌}
 use mathlib.Core.Path.{◌≡◌, refl, ap, ◌∙◌}
@@ -8,8 +8,8 @@ use lib.ListN.{length, drop, set, length-drop, length-set}
 use lib.Seq.{take_all}
 use Rattle.text.specs.Texts.{decimal_from, decimal_of}
 use Rattle.text.proofs.Digits.{decimal_next, decimal_first, digits_left}
-use Rattle.text.proofs.Pieces.{said}
-use Rattle.text.proofs.decimal.Goals as goal
+use Rattle.text.proofs.Lines.{said_line}
+use Rattle.text.proofs.Line.decimal.Goals as goal
 
 pub loop-left-init : goal.loop-left-init
 unfolding decimal_of
@@ -36,7 +36,7 @@ returns c =
     let i = l.first - 1 in
     let s : i + 1 ≡ l.first = omega arith in
     let whole : length (drop i (set l.text i (48 + l.left))) ≤ 21 - i = simp (length-drop, length-set) (omega arith) in
-    said
+    said_line
     (take_all (21 - i) _ whole
     ∙ decimal_first i l.left l.text c.loop-left-test.false (omega arith)
     ∙ ap (λ (k : ℕ). decimal_from k l.left ++ drop k l.text) s

@@ -1,4 +1,4 @@
--- `text::plain::fixed` meets its contract: x is read from its own bits, whose fields are its sign and its size, and the text is the sign and the pointed
+-- `text::Line::fixed` meets its contract: x is read from its own bits, whose fields are its sign and its size, and the text is the sign and the pointed
 -- number one behind the other; what is not modest is left to `column`. Assumes nothing.
 use mathlib.Core.Path.{◌≡◌, sym, ap, ◌∙◌, subst}
 use mathlib.Core.Bool.{Bool, true, false, not, true≢false, cond}
@@ -12,8 +12,8 @@ use lib.Ieee.Bits.{of_bits-to_bits}
 use Rattle.text.specs.Texts.{value_of, column_of}
 use Rattle.text.specs.Decimals.{scaled_of, pointed_of, sign_of, modest, fixed_of}
 use Rattle.text.proofs.Rounding.{bits_bound, bits_sign}
-use Rattle.text.proofs.Pieces.{then, said}
-use Rattle.text.proofs.plain.fixed.Goals as goal
+use Rattle.text.proofs.Lines.{then_line, said_line}
+use Rattle.text.proofs.Line.fixed.Goals as goal
 
 -- an f64 is read from its own bits
 own : (x : Float) → fits binary64 x ≡ true → of_bits binary64 (to_bits binary64 x) ≡ x
@@ -42,33 +42,33 @@ as-decimals x b places k scale n end o h e s q =
     ∙ ap (λ (z : ℕ). sign_of x ++ pointed_of z (scaled_of (10 ^ z) x) ++ end ∷ []) e
     ∙ sym (ap (λ (t : Bool). cond t (sign_of x ++ pointed_of (min places 3) (scaled_of (10 ^ min places 3) x)) (value_of x) ++ end ∷ []) h)
 
-pub returns-then-not-is_modest : goal.returns-then-not-is_modest
+pub returns-else-is_modest : goal.returns-else-is_modest
 unfolding column_of
-returns-then-not-is_modest c =
+returns-else-is_modest c =
     let a = c.args in
-    said (as-column a.x a.places a.end (sym c.is_modest.ensures ∙ c.if-not-is_modest.true)) c.column.ensures
+    said_line (as-column a.x a.places a.end (sym c.is_modest.ensures ∙ c.if-is_modest.false)) c.column.ensures
 
 pub float_to_bits-bits : goal.float_to_bits-bits
 float_to_bits-bits c =
-    no_nan c.args.x (sym c.is_modest.ensures ∙ c.if-not-is_modest.false)
+    no_nan c.args.x (sym c.is_modest.ensures ∙ c.if-is_modest.true)
 
 pub scaled-n-requires : goal.scaled-n-requires
 scaled-n-requires c =
     let x = c.args.x in
-    let h : modest x ≡ true = sym c.is_modest.ensures ∙ c.if-not-is_modest.false in
-    let b = bits_bound (to_bits binary64 x) (ap modest (own x c.well_formed.0.1) ∙ h) in
+    let h : modest x ≡ true = sym c.is_modest.ensures ∙ c.if-is_modest.true in
+    let b = bits_bound (to_bits binary64 x) (ap modest (own x c.well_formed.1.0.1) ∙ h) in
     let k = c.min-k.result in
     let s : 10 ^ k ≤ 10 ^ 3 = pow-le-pow_right {n = 10} (omega arith) {i = k} {j = 3} (omega arith) in
     (omega arith, omega arith)
 
-pub returns : goal.returns
-returns c =
+pub returns-then-is_modest : goal.returns-then-is_modest
+returns-then-is_modest c =
     let a = c.args in
-    said
+    said_line
     (as-decimals a.x (to_bits binary64 a.x) a.places _ _ _ a.end
-    (own a.x c.well_formed.0.1)
-    (sym c.is_modest.ensures ∙ c.if-not-is_modest.false)
+    (own a.x c.well_formed.1.0.1)
+    (sym c.is_modest.ensures ∙ c.if-is_modest.true)
     c.min-k.ensures
     c.power_of_ten.ensures
     c.scaled-n.ensures)
-    (then c.sign-front.ensures c.pointed.ensures)
+    (then_line c.sign.ensures c.pointed.ensures)
