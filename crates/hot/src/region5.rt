@@ -34,6 +34,7 @@ const RESIDUAL: Table<'static> = Table {
 };
 
 // Vapour from 1073.15 K to 2273.15 K, up to 50 MPa.
+#[derive(Drop)]
 pub struct Region5;
 
 impl Parts for Region5 {

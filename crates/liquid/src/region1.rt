@@ -99,6 +99,7 @@ impl Gamma for Liquid {
 }
 
 // Liquid water up to 623.15 K, from its saturation pressure to 100 MPa.
+#[derive(Drop)]
 pub struct Region1;
 
 impl Basic for Region1 {

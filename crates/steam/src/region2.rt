@@ -83,6 +83,7 @@ const RESIDUAL: Table<'static> = Table {
 const TAU_SHIFT: f64 = 0.5;
 
 // Vapour up to 1073.15 K and 100 MPa.
+#[derive(Drop)]
 pub struct Region2;
 
 impl Parts for Region2 {
