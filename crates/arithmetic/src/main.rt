@@ -12,6 +12,16 @@ fn signed(b: u64) -> i16 {
     ((b % 256) as u8).cast_signed() as i16
 }
 
+// An exponent, whose sign is a write of its own. By a call, so that what a print needs of the stack is not kept by
+// all that calls it.
+#[inline(never)]
+fn print_exponent(rt: &impl Print, k: i16) -> io::Result<()> {
+    if k < 0 {
+        streams::write_all(rt, b"-")?;
+    }
+    rt.print(u64::from(k.unsigned_abs()))
+}
+
 // A number by its 16 hexadecimal digits, or nan: a NaN has no digits of its own.
 fn print_float(rt: &impl Print, x: f64) -> io::Result<()> {
     if x == x {
@@ -25,7 +35,7 @@ fn print_float(rt: &impl Print, x: f64) -> io::Result<()> {
 fn print_line(rt: &impl Print, x: f64, k: u64) -> io::Result<()> {
     print_float(rt, x)?;
     streams::write_all(rt, b" ")?;
-    rt.print(signed(k))?;
+    print_exponent(rt, signed(k))?;
     streams::write_all(rt, b" ")?;
     print_float(rt, arith::power(x, signed(k)))?;
     streams::write_all(rt, b" ")?;

@@ -267,7 +267,8 @@ fn run_collects(n: usize) -> f64 {
     sum
 }
 
-// n times the operation that a letter names.
+// n times the operation that a letter names. By a call, so that a run without one has no need of its stack.
+#[inline(never)]
 fn measured(operation: u8, n: usize) -> f64 {
     match operation {
         b'T' | b'P' | b'W' | b'S' | b'U' => run_desk(operation, n),
