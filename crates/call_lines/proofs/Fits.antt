@@ -11,8 +11,6 @@ use Rattle.equations.specs.Equations.{region_of}
 use Rattle.states.specs.declared.Single.{Single}
 use Rattle.ledger.specs.Search.{bit}
 use Rattle.runs.specs.declared.Answer.{Answer}
-use Rattle.refusals.specs.Refusals.{number_of}
-use Rattle.refusals.specs.declared.Refusal.{Refusal}
 use Rattle.runs.specs.declared.Answer.TheVariants.{Ticket, Halved, Idle, Shown, State, Freed}
 use Rattle.records.specs.declared.Call.{Call}
 use Rattle.records.specs.declared.Call.TheVariants.{Post, Peek, Collect, Withdraw}
@@ -54,9 +52,9 @@ state_short a n lo hi =
       column_short (Some hi),
     ))
 
-refused_short : (call : Call) (refusal : Refusal) → length (answer_of call (Err refusal)) ≤ 47
+refused_short : {E : Type 0} (numbered : E → ℕ) (call : Call) (refusal : E) → length (answer_of numbered call (Err refusal)) ≤ 47
 unfolding answer_of handed_of
-refused_short call refusal = simp length-append (omega (arith, digits (number_of refusal), dashes_short call))
+refused_short numbered call refusal = simp length-append (omega (arith, digits (numbered refusal), dashes_short call))
 
 given_short : (a : Answer) → length (given_of a) ≤ 235
 given_short (Ticket t) = rw (← of_ticket t) (simp length-append (omega (arith, digits t)))
@@ -67,10 +65,10 @@ given_short (Shown n lo hi) =
 given_short (State s n lo hi) = rw (← of_state s n lo hi) (omega (arith, state_short s.single n lo hi))
 given_short Freed = rw (← of_freed) (omega arith)
 
-answer_short : (call : Call) (a : Result Answer Refusal) → length (answer_of call a) ≤ 235
-answer_short call (Err refusal) = omega (arith, refused_short call refusal)
-answer_short call (Ok a) = rw (← of_given call a) (given_short a)
+answer_short : {E : Type 0} (numbered : E → ℕ) (call : Call) (a : Result Answer E) → length (answer_of numbered call a) ≤ 235
+answer_short numbered call (Err refusal) = omega (arith, refused_short numbered call refusal)
+answer_short numbered call (Ok a) = rw (← of_given numbered call a) (given_short a)
 
-pub call_short : (number : ℕ) (call : Call) (a : Result Answer Refusal) → length (call_line number call a) ≤ 265
+pub call_short : {E : Type 0} (numbered : E → ℕ) (number : ℕ) (call : Call) (a : Result Answer E) → length (call_line numbered number call a) ≤ 265
 unfolding call_line
-call_short number call a = simp length-append (omega (arith, digits number, name_short call, answer_short call a))
+call_short numbered number call a = simp length-append (omega (arith, digits number, name_short call, answer_short numbered call a))

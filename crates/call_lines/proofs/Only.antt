@@ -5,5 +5,6 @@ use Rattle.text.proofs.Only.{OnlyRoom}
 use Rattle.call_lines.proofs.told.Kinds as told_kinds
 use Rattle.call_lines.proofs.told.Reads as told
 
-pub told_only : OnlyRoom 1 told_kinds.ps told_kinds.r (λ κs s. s.1.1.1.0.now) told.Post
-told_only κs a x y s t p q = (p.place ∙ sym q.place, p.room ∙ sym q.room)
+-- of an answer that is refused by whatever has a number: which it has is in `numbered`
+pub told_only : (E : _) (laws : _) (copy : _) (numbered : _) (d : _) (clone : _) (e : _) → OnlyRoom 2 (told_kinds.ps E laws copy) (told_kinds.r E laws copy) (λ κs s. s.1.1.1.0.now) (told.Post E laws copy numbered d clone e)
+told_only E laws copy numbered d clone e κs a x y s t p q = (p.place ∙ sym q.place, p.room ∙ sym q.room)

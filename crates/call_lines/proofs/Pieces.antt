@@ -4,7 +4,6 @@ use mathlib.Core.Path.{◌≡◌, refl}
 use mathlib.Core.List.{[], ◌∷◌, ◌++◌, append_assoc}
 use lib.Ieee.{Float}
 use Rattle.std.proofs.Common.{Result, Ok}
-use Rattle.refusals.specs.declared.Refusal.{Refusal}
 use Rattle.text.specs.Texts.{decimal_from, decimal_of, value_of, column_of, blank, newline, number_column, float_column}
 use Rattle.equations.specs.Equations.{region_of}
 use Rattle.states.specs.declared.Single.{Single}
@@ -45,14 +44,14 @@ pub of_freed : 48 ∷ newline ∷ [] ≡ given_of Freed
 unfolding given_of columns_of line_of
 of_freed = rw no_refusal
 
-pub of_given : (call : Call) (a : Answer) → given_of a ≡ answer_of call (Ok a)
+pub of_given : {E : Type 0} (numbered : E → ℕ) (call : Call) (a : Answer) → given_of a ≡ answer_of numbered call (Ok a)
 unfolding given_of answer_of handed_of
-of_given call a = refl
+of_given numbered call a = refl
 
-pub of_call : (call : Call) (number : ℕ) (a : Result Answer Refusal)
-    → number_column number blank ++ (name_of call ++ blank ∷ []) ++ answer_of call a ≡ call_line number call a
+pub of_call : {E : Type 0} (numbered : E → ℕ) (call : Call) (number : ℕ) (a : Result Answer E)
+    → number_column number blank ++ (name_of call ++ blank ∷ []) ++ answer_of numbered call a ≡ call_line numbered number call a
 unfolding call_line
-of_call call number a = simp append_assoc
+of_call numbered call number a = simp append_assoc
 
 pub of_columns : (a : Single) (n : ℕ) (lo hi : Float)
     → (48 ∷ blank ∷ []) ++ number_column (region_of a.equation) blank ++ number_column (bit a.verified) blank ++ float_column a.p blank ++ float_column a.t blank

@@ -4,7 +4,7 @@ use Rattle.text.specs.Texts.{decimal_of, value_of, blank, newline}
 use Rattle.equations.specs.Equations.{region_of}
 use Rattle.states.specs.declared.Single.{Single}
 use Rattle.ledger.specs.Search.{bit}
-use Rattle.refusals.specs.Refusals.{number_in}
+use Rattle.refusals.specs.Refusals.{number_by}
 use Rattle.refusals.specs.declared.Refusal.{Refusal}
 use Rattle.runs.specs.Answers.{Value, whole, kelvin, state, values_of}
 use Rattle.runs.specs.declared.Answer.{Answer}
@@ -42,7 +42,7 @@ width_of (Collect caller ticket) = 13
 width_of (Withdraw caller ticket) = 0
 
 -- the values handed out; where the call is refused, `-` for each column of what it would have been
-unfoldable pub handed_of : Call → Result Answer Refusal → List (List ℕ)
+unfoldable pub handed_of : {E : Type 0} → Call → Result Answer E → List (List ℕ)
 handed_of call (Err refusal) = replicate (width_of call) (45 ∷ [])
 handed_of call (Ok a) = columns_of (values_of (Ok a))
 
@@ -64,9 +64,9 @@ name_of (Withdraw caller ticket) = 119 ∷ 105 ∷ 116 ∷ 104 ∷ 100 ∷ 114 �
 unfoldable pub given_of : Answer → List ℕ
 given_of a = decimal_of 0 ++ line_of (columns_of (values_of (Ok a)))
 
--- the refusal, 0 if there is none, and what was handed out
-unfoldable pub answer_of : Call → Result Answer Refusal → List ℕ
-answer_of call a = decimal_of (number_in a) ++ line_of (handed_of call a)
+-- the refusal by its number, 0 if there is none, and what was handed out
+unfoldable pub answer_of : {E : Type 0} → (E → ℕ) → Call → Result Answer E → List ℕ
+answer_of numbered call a = decimal_of (number_by numbered a) ++ line_of (handed_of call a)
 
-unfoldable pub call_line : ℕ → Call → Result Answer Refusal → List ℕ
-call_line number call a = decimal_of number ++ blank ∷ name_of call ++ blank ∷ answer_of call a
+unfoldable pub call_line : {E : Type 0} → (E → ℕ) → ℕ → Call → Result Answer E → List ℕ
+call_line numbered number call a = decimal_of number ++ blank ∷ name_of call ++ blank ∷ answer_of numbered call a

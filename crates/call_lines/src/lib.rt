@@ -9,7 +9,7 @@ ghost use Rattle.call_lines.specs.Lines.{state_columns, width_of, line_of, name_
 
 use equations::region_of;
 use records::Call;
-use refusals::Refusal;
+use refusals::Numbered;
 use runs::Answer;
 use states::Single;
 use text::Line;
@@ -110,18 +110,24 @@ fn handed(answer: Answer, line: &mut Line<'_>)
 }
 
 // Writes the refusal or 0, and what a call handed out.
-fn answered(call: Call, answer: Result<Answer, Refusal>, line: &mut Line<'_>)
-    ensures { Writes line.old (answer_of call answer) line.new }
+fn answered<E: Numbered>(call: Call, answer: Result<Answer, E>, line: &mut Line<'_>)
+    ensures { Writes line.old (answer_of E.numbered call answer) line.new }
 {
     match answer {
         Ok(answer) => handed(answer, line),
-        Err(refusal) => refused(call, refusal.number(), line),
+        Err(refusal) => refused(call, refusal.as_number(), line),
     }
 }
 
-// Writes the line of a call: its number, its name, the refusal or 0, and what it handed out.
-pub fn told(number: u64, call: Call, answer: Result<Answer, Refusal>, out: &mut [u8]) -> usize
-    ensures { Written out.old 0 (call_line number call answer) out.new result }
+// Writes the line of a call: its number, its name, the refusal or 0, and what it handed out. What refuses it
+// may be whatever has a number.
+pub fn told<E: Numbered>(
+    number: u64,
+    call: Call,
+    answer: Result<Answer, E>,
+    out: &mut [u8],
+) -> usize
+    ensures { Written out.old 0 (call_line E.numbered number call answer) out.new result }
 {
     let mut line = Line::new(out, 0);
     named(number, call, &mut line);

@@ -27,7 +27,7 @@ use Rattle.listing.specs.declared.Listing.TheVariants.{Regions, Answers}
 
 row_short : (listing : Listing) (number : ℕ) (row : Point) → length (row_line listing number row) ≤ 239
 unfolding row_line
-row_short Regions number row = omega (arith, verdict_short number row.kind (asked_of row) newline)
+row_short Regions number row = omega (arith, verdict_short number_of number row.kind (asked_of row) newline)
 row_short Answers number row = answer_short number row
 
 -- ---- texts
@@ -68,10 +68,10 @@ lines_short number row note h =
     omega (arith, joined_short (triple_line number row note) 122 (length note / 3) (λ i. quotient_short number row (get_or note (3 * i) 0) (get_or note (3 * i + 1) 0) (get_or note (3 * i + 2) 0)))
 
 -- what `quotients` lends
-pub quotients_head_fits : (r : Result Rows Refusal) → length (quotients_head r) ≤ 262144
+pub quotients_head_fits : {E : Type 0} (numbered : E → ℕ) (r : Result Rows E) → length (quotients_head numbered r) ≤ 262144
 unfolding quotients_head
-quotients_head_fits (Err refusal) = omega (arith, refused_short (number_of refusal))
-quotients_head_fits (Ok rows) = omega arith
+quotients_head_fits numbered (Err refusal) = omega (arith, refused_short (numbered refusal))
+quotients_head_fits numbered (Ok rows) = omega arith
 
 pub quotients_fits : (s : List ℕ) (k : ℕ) → length (quotients_row s (triples_of s) k) ≤ 262144
 unfolding quotients_row in_triples

@@ -23,8 +23,9 @@ answers_only κs a x y s t p q = (p.place ∙ sym q.place, p.room ∙ sym q.room
 pub triples_only : Only 1 triples_kinds.ps triples_kinds.r triples.Post
 triples_only κs a x y s t p q = p ∙ sym q
 
-pub quotients_head_only : OnlyRoom 1 quotients_head_kinds.ps quotients_head_kinds.r (λ κs s. s.1.0.now) quotients_head_reads.Post
-quotients_head_only κs a x y s t p q = (p.place ∙ sym q.place, p.room ∙ sym q.room)
+-- of a reading that is refused by whatever has a number: which it has is in `numbered`
+pub quotients_head_only : (E : _) (laws : _) (copy : _) (numbered : _) (d : _) (clone : _) (e : _) → OnlyRoom 2 (quotients_head_kinds.ps E laws copy) (quotients_head_kinds.r E laws copy) (λ κs s. s.1.0.now) (quotients_head_reads.Post E laws copy numbered d clone e)
+quotients_head_only E laws copy numbered d clone e κs a x y s t p q = (p.place ∙ sym q.place, p.room ∙ sym q.room)
 
-pub quotients_only : OnlyRoom 2 quotients_kinds.ps quotients_kinds.r (λ κs s. s.1.1.1.0.now) quotients.Post
-quotients_only κs a x y s t p q = (p.place ∙ sym q.place, p.room ∙ sym q.room)
+pub quotients_only : (E : _) (laws : _) (copy : _) (clone : _) (d : _) → OnlyRoom 3 (quotients_kinds.ps E laws copy) (quotients_kinds.r E laws copy) (λ κs s. s.1.1.1.0.now) (quotients.Post E laws copy clone d)
+quotients_only E laws copy clone d κs a x y s t p q = (p.place ∙ sym q.place, p.room ∙ sym q.room)

@@ -58,11 +58,11 @@ abbrev pub triples_of : List ℕ → Result Rows Refusal
 triples_of s = in_triples (opened_of s)
 
 -- `row z x y answer value`, or what is said of a refused sheet
-unfoldable pub quotients_head : Result Rows Refusal → List ℕ
-quotients_head (Err refusal) = refused_line (number_of refusal)
-quotients_head (Ok rows) = 114 ∷ 111 ∷ 119 ∷ 32 ∷ 122 ∷ 32 ∷ 120 ∷ 32 ∷ 121 ∷ 32 ∷ 97 ∷ 110 ∷ 115 ∷ 119 ∷ 101 ∷ 114 ∷ 32 ∷ 118 ∷ 97 ∷ 108 ∷ 117 ∷ 101 ∷ newline ∷ []
+unfoldable pub quotients_head : {E : Type 0} → (E → ℕ) → Result Rows E → List ℕ
+quotients_head numbered (Err refusal) = refused_line (numbered refusal)
+quotients_head numbered (Ok rows) = 114 ∷ 111 ∷ 119 ∷ 32 ∷ 122 ∷ 32 ∷ 120 ∷ 32 ∷ 121 ∷ 32 ∷ 97 ∷ 110 ∷ 115 ∷ 119 ∷ 101 ∷ 114 ∷ 32 ∷ 118 ∷ 97 ∷ 108 ∷ 117 ∷ 101 ∷ newline ∷ []
 
 -- row k's lines, one for each triple of the note; none where there is no such row
-unfoldable pub quotients_row : List ℕ → Result Rows Refusal → ℕ → List ℕ
+unfoldable pub quotients_row : {E : Type 0} → List ℕ → Result Rows E → ℕ → List ℕ
 quotients_row s (Err refusal) k = []
 quotients_row s (Ok rows) k = cond (ltb k rows.count) (quotient_lines (k + 1) (row_of s rows.start k) (take rows.start s)) []

@@ -7,7 +7,7 @@ ghost use Rattle.row_lines.specs.Lines.{quotient_lines};
 ghost use Rattle.listing.specs.Listings.{quotients_head, quotients_row};
 
 use crate::opening::note;
-use refusals::Refusal;
+use refusals::Numbered;
 use row_lines::{quotient_line, refused};
 use sheet::{Point, Rows};
 use text::Line;
@@ -29,13 +29,13 @@ fn lines(number: u64, row: Point, note: &[u8], line: &mut Line<'_>)
     }
 }
 
-// The head of the text: the header, or of a refused sheet its number.
-pub fn quotients_head(reading: Result<Rows, Refusal>, out: &mut [u8]) -> usize
-    ensures { Written out.old 0 (quotients_head reading) out.new result }
+// The head of the text: the header, or of a refused sheet its number, whatever has one.
+pub fn quotients_head<E: Numbered>(reading: Result<Rows, E>, out: &mut [u8]) -> usize
+    ensures { Written out.old 0 (quotients_head E.numbered reading) out.new result }
 {
     let mut line = Line::new(out, 0);
     match reading {
-        Err(refusal) => refused(refusal.number(), &mut line),
+        Err(refusal) => refused(refusal.as_number(), &mut line),
         Ok(_) => line.bytes(b"row z x y answer value\n"),
     }
     line.end()
@@ -43,7 +43,7 @@ pub fn quotients_head(reading: Result<Rows, Refusal>, out: &mut [u8]) -> usize
 
 // The lines of row k, counted from 0, of a sheet that was read by `triples`; nothing where it has no
 // such row.
-pub fn quotients(sheet: &[u8], reading: Result<Rows, Refusal>, k: usize, out: &mut [u8]) -> usize
+pub fn quotients<E: Copy>(sheet: &[u8], reading: Result<Rows, E>, k: usize, out: &mut [u8]) -> usize
     ensures { Written out.old 0 (quotients_row sheet.now reading k) out.new result }
 {
     match reading {

@@ -6,7 +6,7 @@ ghost use Rattle.listing.specs.Listings.{header_of, row_line, line_at};
 
 use crate::Listing;
 use row_lines::{answer_line, region_line};
-use sheet::{Point, Rows};
+use sheet::Point;
 use text::Line;
 
 // Writes a listing's header.
@@ -29,12 +29,12 @@ fn row_line(listing: Listing, number: u64, row: Point, line: &mut Line<'_>)
     }
 }
 
-// Writes the lines of the rows, numbered from 1.
-pub(crate) fn lines(listing: Listing, sheet: &[u8], rows: Rows, line: &mut Line<'_>)
-    ensures { Writes line.old (joined (line_at listing sheet.now rows.start) rows.count) line.new }
+// Writes the lines of so many rows, the first of which starts at a place of the sheet, numbered from 1.
+pub(crate) fn lines(listing: Listing, sheet: &[u8], start: usize, n: usize, line: &mut Line<'_>)
+    ensures { Writes line.old (joined (line_at listing sheet.now start) n) line.new }
 {
-    for k in 0..rows.count {
-        let row = sheet::row(sheet, rows.start, k);
+    for k in 0..n {
+        let row = sheet::row(sheet, start, k);
         row_line(listing, k as u64 + 1, row, line);
     }
 }

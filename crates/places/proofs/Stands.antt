@@ -12,7 +12,7 @@ use Rattle.places.specs.Answers.{side_region_of, standing_region_of}
 use Rattle.places.specs.Standing.{beside_line, beyond_line, standing_of, standing_py, side_of, place_of}
 use Rattle.places.specs.declared.Side.{Side}
 
-pub refused_stands : (p : Float) (refusal : Refusal) → standing_of p (Err refusal) ≡ Err refusal
+pub refused_stands : {E : Type 0} (p : Float) (refusal : E) → standing_of p (Err refusal) ≡ Err refusal
 unfolding standing_of
 refused_stands p refusal = refl
 

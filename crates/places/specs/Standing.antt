@@ -20,7 +20,7 @@ beyond_line (Side.Phase phase) = Beyond phase
 beyond_line (Side.Wet t) = Wet t
 
 -- what is refused stays so
-unfoldable pub standing_of : Float → Result Side Refusal → Result Standing Refusal
+unfoldable pub standing_of : {E : Type 0} → Float → Result Side E → Result Standing E
 standing_of p (Ok side) = Ok (cond (saturates p) (beside_line (ts_of p) side) (beyond_line side))
 standing_of p (Err refusal) = Err refusal
 

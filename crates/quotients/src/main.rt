@@ -5,6 +5,7 @@
 
 ghost use Rattle.std.specs.Prelude.{◌≡◌, IfOk};
 ghost use Rattle.text.specs.Room.{Whole};
+ghost use Rattle.refusals.specs.Refusals.{number_of};
 ghost use Rattle.sheet.specs.Read.{count_of};
 ghost use Rattle.listing.specs.Listings.{triples_of, quotients_head, quotients_row};
 
@@ -18,7 +19,7 @@ const ROOM: usize = 262144;
 
 // Writes the head of the listing: this room holds every one, so that none is cut.
 fn head(reading: Result<Rows, Refusal>, room: &mut [u8; ROOM]) -> usize
-    ensures { Whole room.new (quotients_head reading) result }
+    ensures { Whole room.new (quotients_head number_of reading) result }
 {
     listing::quotients_head(reading, room)
 }

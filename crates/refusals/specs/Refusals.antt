@@ -25,7 +25,15 @@ number_of Refusal.Layout = 23
 number_of Refusal.RowKind = 24
 number_of Refusal.ShortRoom = 25
 
--- the number of an answer's refusal, 0 where nothing is refused
+-- the number that a number by itself has
+abbrev pub itself : ℕ → ℕ
+itself n = n
+
+-- the number of an answer's refusal, 0 where nothing is refused; `numbered` says which number a refusal has
+abbrev pub number_by : {T E : Type 0} → (E → ℕ) → Result T E → ℕ
+number_by numbered (Ok x) = 0
+number_by numbered (Err refusal) = numbered refusal
+
+-- the same by the table
 abbrev pub number_in : {T : Type 0} → Result T Refusal → ℕ
-number_in (Ok x) = 0
-number_in (Err refusal) = number_of refusal
+number_in answer = number_by number_of answer

@@ -2,8 +2,8 @@
 // refused is an `Err` of one of these, and holds nothing else.
 #![tactic(auto)]
 
-ghost use Rattle.std.specs.Prelude.{◌≡◌};
-ghost use Rattle.refusals.specs.Refusals.{number_of, number_in};
+ghost use Rattle.std.specs.Prelude.{◌≡◌, ℕ};
+ghost use Rattle.refusals.specs.Refusals.{number_of, itself, number_by};
 
 // The reasons, in the order of their numbers. Units: p in MPa, T in K, h in kJ/kg, s in kJ/(kg K).
 #[derive(Clone, Copy, Debug, PartialEq, Eq)]
@@ -80,12 +80,36 @@ impl Refusal {
     }
 }
 
+// What has the number of a refusal: one of the table, or a number by itself, whatever it is.
+pub trait Numbered: Copy {
+    ghost numbered: { Self → ℕ };
+
+    fn as_number(self) -> u64
+        ensures { result ≡ numbered self };
+}
+
+impl Numbered for Refusal {
+    ghost numbered = { number_of };
+
+    fn as_number(self) -> u64 {
+        Refusal::number(self)
+    }
+}
+
+impl Numbered for u64 {
+    ghost numbered = { itself };
+
+    fn as_number(self) -> u64 {
+        self
+    }
+}
+
 // The number of an answer's refusal, 0 where nothing is refused.
-pub fn number<T: Copy>(answer: Result<T, Refusal>) -> u64
-    ensures { result ≡ number_in answer }
+pub fn number<T: Copy, E: Numbered>(answer: Result<T, E>) -> u64
+    ensures { result ≡ number_by E.numbered answer }
 {
     match answer {
         Ok(_) => 0,
-        Err(refusal) => refusal.number(),
+        Err(refusal) => refusal.as_number(),
     }
 }

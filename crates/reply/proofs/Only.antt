@@ -9,11 +9,11 @@ use Rattle.reply.proofs.answers.region.Reads as region
 use Rattle.reply.proofs.answers.values.Kinds as values_kinds
 use Rattle.reply.proofs.answers.values.Reads as values
 
-pub region_only : Only 0 region_kinds.ps region_kinds.r region.Post
-region_only κs a x y s t p q = p ∙ sym q
+pub region_only : (E : _) (laws : _) (copy : _) (clone : _) (d : _) → Only 1 (region_kinds.ps E laws copy) (region_kinds.r E laws copy) (region.Post E laws copy clone d)
+region_only E laws copy clone d κs a x y s t p q = p ∙ sym q
 
-pub mark_only : Only 0 mark_kinds.ps mark_kinds.r mark.Post
-mark_only κs a x y s t p q = p ∙ sym q
+pub mark_only : (E : _) (laws : _) (copy : _) (clone : _) (d : _) → Only 1 (mark_kinds.ps E laws copy) (mark_kinds.r E laws copy) (mark.Post E laws copy clone d)
+mark_only E laws copy clone d κs a x y s t p q = p ∙ sym q
 
-pub values_only : Only 0 values_kinds.ps values_kinds.r values.Post
-values_only κs a x y s t p q = p ∙ sym q
+pub values_only : (E : _) (laws : _) (copy : _) (clone : _) (d : _) → Only 1 (values_kinds.ps E laws copy) (values_kinds.r E laws copy) (values.Post E laws copy clone d)
+values_only E laws copy clone d κs a x y s t p q = p ∙ sym q

@@ -1,23 +1,22 @@
 -- What an answer says in the paper's words: its region, mark and values for each case. Definitions only.
 use Rattle.std.specs.Prelude.{ℕ, Bool, false, List, [], ◌∷◌, Float, Option, Some, None, Result, Ok, Err}
 use Rattle.equations.specs.Equations as Equations
-use Rattle.refusals.specs.declared.Refusal.{Refusal}
 use Rattle.reply.specs.declared.Answer.{Answer}
 
 -- the region, 0 if refused
-abbrev pub region_of : Result Answer Refusal → ℕ
+abbrev pub region_of : {E : Type 0} → Result Answer E → ℕ
 region_of (Ok (Answer.Single a)) = Equations.region_of a.equation
 region_of (Ok (Answer.Wet a)) = 4
 region_of (Err why) = 0
 
 -- whether it is a state that is verified
-abbrev pub mark_of : Result Answer Refusal → Bool
+abbrev pub mark_of : {E : Type 0} → Result Answer E → Bool
 mark_of (Ok (Answer.Single a)) = a.verified
 mark_of (Ok (Answer.Wet a)) = a.verified
 mark_of (Err why) = false
 
 -- p, T, v, u, h, s, cp, w and x: a state of one phase has no quality x, a wet state no cp and no w, a refusal nothing
-abbrev pub values_of : Result Answer Refusal → List (Option Float)
+abbrev pub values_of : {E : Type 0} → Result Answer E → List (Option Float)
 values_of (Ok (Answer.Single a)) =
     Some a.p
     ∷ Some a.t

@@ -1,14 +1,13 @@
 // What an answer says in the paper's words: its region, mark and values (specs/Answers.antt). Its number
-// is that of its refusal.
+// is that of its refusal, which may be of any type: none is looked into.
 ghost use Rattle.std.specs.Prelude.{◌≡◌};
 ghost use Rattle.reply.specs.Answers.{region_of, mark_of, values_of};
 
 use crate::Answer;
 use equations::region_of;
-use refusals::Refusal;
 
 // The region, 0 if refused, as the lines of the programs say it.
-pub fn region(a: Result<Answer, Refusal>) -> u64
+pub fn region<E: Copy>(a: Result<Answer, E>) -> u64
     ensures { result ≡ region_of a }
 {
     match a {
@@ -19,7 +18,7 @@ pub fn region(a: Result<Answer, Refusal>) -> u64
 }
 
 // Whether it is a state that is verified.
-pub fn mark(a: Result<Answer, Refusal>) -> bool
+pub fn mark<E: Copy>(a: Result<Answer, E>) -> bool
     ensures { result ≡ mark_of a }
 {
     match a {
@@ -30,7 +29,7 @@ pub fn mark(a: Result<Answer, Refusal>) -> bool
 }
 
 // p, T, v, u, h, s, cp, w and x, as far as there are.
-pub fn values(a: Result<Answer, Refusal>) -> [Option<f64>; 9]
+pub fn values<E: Copy>(a: Result<Answer, E>) -> [Option<f64>; 9]
     ensures { result ≡ values_of a }
 {
     match a {

@@ -1,12 +1,12 @@
 -- The lines of the sheet programs, as bytes of ASCII: columns with a blank between them, and a newline at the end. Definitions only.
 use Rattle.std.specs.Prelude.{ℕ, ◌+◌, ◌*◌, ◌/◌, Bool, true, false, cond, List, [], ◌∷◌, ◌++◌, eqb, length, get_or, Float, Option, None, Result}
-use Rattle.std.specs.Result.{result_ok}
 use Rattle.arith.specs.Bits.{float_of}
 use Rattle.text.specs.Texts.{column_of, blank, newline, number_column, joined}
 use Rattle.sheet.specs.declared.rows.Point.{Point}
-use Rattle.refusals.specs.Refusals.{number_in}
+use Rattle.refusals.specs.Refusals.{number_of, number_by, number_in}
 use Rattle.refusals.specs.declared.Refusal.{Refusal}
 use Rattle.reply.specs.Answers.{region_of, mark_of, values_of}
+use Rattle.slopes.specs.Answers.{value_of}
 use Rattle.sums.specs.Queries.{answer_of}
 use Rattle.sums.specs.Quotients.{quotient_of}
 use Rattle.reply.specs.declared.Answer.{Answer}
@@ -21,12 +21,12 @@ refused_line n = (114 ∷ 101 ∷ 102 ∷ 117 ∷ 115 ∷ 101 ∷ 100 ∷ 32 ∷
 abbrev pub asked_of : Point → Result Answer Refusal
 asked_of row = answer_of row.kind (float_of row.first) (float_of row.second)
 
--- the row's number, its kind, the refusal and the region
-unfoldable pub verdict_of : ℕ → ℕ → Result Answer Refusal → ℕ → List ℕ
-verdict_of number kind a end = number_column number blank ++ number_column kind blank ++ number_column (number_in a) blank ++ number_column (region_of a) end
+-- the row's number, its kind, the refusal by its number, and the region
+unfoldable pub verdict_of : {E : Type 0} → (E → ℕ) → ℕ → ℕ → Result Answer E → ℕ → List ℕ
+verdict_of numbered number kind a end = number_column number blank ++ number_column kind blank ++ number_column (number_by numbered a) blank ++ number_column (region_of a) end
 
 abbrev pub region_line : ℕ → Point → List ℕ
-region_line number row = verdict_of number row.kind (asked_of row) newline
+region_line number row = verdict_of number_of number row.kind (asked_of row) newline
 
 -- the mark of a state: `1` verified, `0` not; `-` for a refusal, which has no region
 abbrev pub digit_of : Bool → ℕ
@@ -44,7 +44,7 @@ unfoldable pub value_columns : List (Option Float) → List ℕ
 value_columns values = joined (value_column values blank) 8 ++ value_column values newline 8
 
 unfoldable pub answer_line : ℕ → Point → List ℕ
-answer_line number row = let a = asked_of row in verdict_of number row.kind a blank ++ (mark_byte a ∷ blank ∷ []) ++ value_columns (values_of a)
+answer_line number row = let a = asked_of row in verdict_of number_of number row.kind a blank ++ (mark_byte a ∷ blank ∷ []) ++ value_columns (values_of a)
 
 -- ---- quotients
 
@@ -53,7 +53,7 @@ unfoldable pub quotient_line : ℕ → Point → ℕ → ℕ → ℕ → List �
 quotient_line number row z x y =
     let q = quotient_of row.kind (float_of row.first) (float_of row.second) z x y in
     number_column number blank ++ number_column z blank ++ number_column x blank ++ number_column y blank ++ number_column (number_in q) blank
-    ++ (column_of (result_ok q) ++ newline ∷ [])
+    ++ (column_of (value_of q) ++ newline ∷ [])
 
 -- the line of the note's triple i
 abbrev pub triple_line : ℕ → Point → List ℕ → ℕ → List ℕ

@@ -1,6 +1,7 @@
 // The columns that lines are made of (specs/Lines.antt).
 ghost use Rattle.std.specs.Prelude.{◌≡◌};
 ghost use Rattle.text.specs.Lines.{Writes};
+ghost use Rattle.refusals.specs.Refusals.{number_of, number_in};
 ghost use Rattle.reply.specs.Answers.{values_of};
 ghost use Rattle.row_lines.specs.Lines.{asked_of, verdict_of, digit_of, mark_byte, value_columns};
 
@@ -20,6 +21,14 @@ pub(crate) fn asked(row: Point) -> Result<Answer, Refusal>
     )
 }
 
+// The number of what refuses a query, 0 where nothing does. A call of its own, so that an edit can be wrong of
+// these answers and of no other.
+fn refused_by(a: Result<Answer, Refusal>) -> u64
+    ensures { result ≡ number_in a }
+{
+    refusals::number(a)
+}
+
 // Writes a row's number, its kind, the refusal and the region, and the byte that ends them.
 pub(crate) fn verdict(
     number: u64,
@@ -28,11 +37,11 @@ pub(crate) fn verdict(
     end: u8,
     line: &mut Line<'_>,
 )
-    ensures { Writes line.old (verdict_of number kind a end) line.new }
+    ensures { Writes line.old (verdict_of number_of number kind a end) line.new }
 {
     line.decimal(number, b' ');
     line.decimal(kind, b' ');
-    line.decimal(refusals::number(a), b' ');
+    line.decimal(refused_by(a), b' ');
     line.decimal(reply::region(a), end);
 }
 

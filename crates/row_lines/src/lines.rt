@@ -1,9 +1,11 @@
 // A line each (specs/Lines.antt).
 ghost use Rattle.std.specs.Prelude.{◌≡◌};
 ghost use Rattle.text.specs.Lines.{Writes};
+ghost use Rattle.refusals.specs.Refusals.{number_in};
 ghost use Rattle.row_lines.specs.Lines.{refused_line, region_line, answer_line, quotient_line};
 
 use crate::columns::{asked, mark, values, verdict};
+use refusals::Refusal;
 use sheet::Point;
 use text::Line;
 
@@ -32,6 +34,13 @@ pub fn answer_line(number: u64, row: Point, line: &mut Line<'_>)
     values(a, line);
 }
 
+// The number of what refuses a derivative, 0 where nothing does.
+fn refused_by(q: Result<f64, Refusal>) -> u64
+    ensures { result ≡ number_in q }
+{
+    refusals::number(q)
+}
+
 // Writes a row's number, the properties z, x, y, the refusal and the value.
 pub fn quotient_line(number: u64, row: Point, z: u64, x: u64, y: u64, line: &mut Line<'_>)
     ensures { Writes line.old (quotient_line number row z x y) line.new }
@@ -43,6 +52,6 @@ pub fn quotient_line(number: u64, row: Point, z: u64, x: u64, y: u64, line: &mut
     line.decimal(z, b' ');
     line.decimal(x, b' ');
     line.decimal(y, b' ');
-    line.decimal(refusals::number(q), b' ');
-    line.column(q.ok(), b'\n');
+    line.decimal(refused_by(q), b' ');
+    line.column(slopes::value(q), b'\n');
 }

@@ -1,17 +1,28 @@
 // The lines of the listing (specs/Listing.antt).
 ghost use Rattle.std.specs.Prelude.{◌≡◌};
+ghost use Rattle.refusals.specs.Refusals.{number_in};
 ghost use Rattle.text.specs.Lines.{Writes};
 ghost use Rattle.text.specs.Texts.{joined};
 ghost use Rattle.saturation_listing.specs.Listing.{temperature_line, line_at};
 
+use refusals::Refusal;
+use saturation_line::SaturationPressure;
 use text::Line;
+
+// The number of what refuses a saturation pressure, 0 where nothing does. A call of its own, so that an edit can
+// be wrong of these answers and of no other.
+fn refused_by(a: Result<SaturationPressure, Refusal>) -> u64
+    ensures { result ≡ number_in a }
+{
+    refusals::number(a)
+}
 
 // Writes a row's number, the refusal, the place and p at T in K.
 fn temperature_line(number: u64, t: f64, line: &mut Line<'_>)
     ensures { Writes line.old (temperature_line number t) line.new }
 {
     let a = saturation_reply::saturation(t);
-    let refusal = refusals::number(a);
+    let refusal = refused_by(a);
     let place = saturation_reply::place(a);
     line.decimal(number, b' ');
     line.decimal(refusal, b' ');

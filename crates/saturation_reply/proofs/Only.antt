@@ -12,8 +12,8 @@ use Rattle.saturation_reply.proofs.saturation.Reads as saturation
 pub saturation_only : Only 0 saturation_kinds.ps saturation_kinds.r saturation.Post
 saturation_only κs a x y s t p q = p ∙ sym q
 
-pub place_only : Only 0 place_kinds.ps place_kinds.r place.Post
-place_only κs a x y s t p q = p ∙ sym q
+pub place_only : (E : _) (laws : _) (copy : _) (clone : _) (d : _) → Only 1 (place_kinds.ps E laws copy) (place_kinds.r E laws copy) (place.Post E laws copy clone d)
+place_only E laws copy clone d κs a x y s t p q = p ∙ sym q
 
-pub value_only : Only 0 value_kinds.ps value_kinds.r value.Post
-value_only κs a x y s t p q = p ∙ sym q
+pub value_only : (E : _) (laws : _) (copy : _) (clone : _) (d : _) → Only 1 (value_kinds.ps E laws copy) (value_kinds.r E laws copy) (value.Post E laws copy clone d)
+value_only E laws copy clone d κs a x y s t p q = p ∙ sym q

@@ -23,7 +23,7 @@ pub fn saturation(t: f64) -> Result<SaturationPressure, Refusal>
 
 // The place of an answer, which is no region: 1 up to 623.15 K, 2 above that, 0 if refused, as the request
 // numbers them.
-pub fn place(answer: Result<SaturationPressure, Refusal>) -> u64
+pub fn place<E: Copy>(answer: Result<SaturationPressure, E>) -> u64
     ensures { result ≡ place_of answer }
 {
     match answer {
@@ -34,7 +34,7 @@ pub fn place(answer: Result<SaturationPressure, Refusal>) -> u64
 }
 
 // The pressure of an answer, unless refused.
-pub fn value(answer: Result<SaturationPressure, Refusal>) -> Option<f64>
+pub fn value<E: Copy>(answer: Result<SaturationPressure, E>) -> Option<f64>
     ensures { result ≡ value_of answer }
 {
     match answer {

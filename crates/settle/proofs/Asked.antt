@@ -30,13 +30,13 @@ refusal_of (Ok (Answer.Wet a)) = 8
 refusal_of (Err refusal) = number_of refusal
 
 abbrev pub halved_in : Result Answer Refusal → ℕ
-halved_in (Ok (Answer.Single a)) = Sums.region_of (Ok (Answer.Single a))
+halved_in (Ok (Answer.Single a)) = Sums.region_of {E = Refusal} (Ok (Answer.Single a))
 halved_in (Ok (Answer.Wet a)) = 0
 halved_in (Err refusal) = 0
 
 -- and the ends of the bracket there
 abbrev pub bracket_in : Float → Result Answer Refusal → List Float
-bracket_in p (Ok (Answer.Single a)) = let b = bracket_of (phase_of (Sums.region_of (Ok (Answer.Single a)))) p in b.lo ∷ b.hi ∷ []
+bracket_in p (Ok (Answer.Single a)) = let b = bracket_of (phase_of (Sums.region_of {E = Refusal} (Ok (Answer.Single a)))) p in b.lo ∷ b.hi ∷ []
 bracket_in p (Ok (Answer.Wet a)) = []
 bracket_in p (Err refusal) = []
 

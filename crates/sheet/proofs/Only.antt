@@ -16,11 +16,11 @@ use Rattle.sheet.proofs.rows.row.Reads as row
 pub read_only : Only 1 read_kinds.ps read_kinds.r read.Post
 read_only κs a x y s t p q = p ∙ sym q
 
-pub count_only : Only 0 count_kinds.ps count_kinds.r count.Post
-count_only κs a x y s t p q = p ∙ sym q
+pub count_only : (E : _) (laws : _) (copy : _) (clone : _) (d : _) → Only 1 (count_kinds.ps E laws copy) (count_kinds.r E laws copy) (count.Post E laws copy clone d)
+count_only E laws copy clone d κs a x y s t p q = p ∙ sym q
 
-pub start_only : Only 0 start_kinds.ps start_kinds.r start.Post
-start_only κs a x y s t p q = p ∙ sym q
+pub start_only : (E : _) (laws : _) (copy : _) (clone : _) (d : _) → Only 1 (start_kinds.ps E laws copy) (start_kinds.r E laws copy) (start.Post E laws copy clone d)
+start_only E laws copy clone d κs a x y s t p q = p ∙ sym q
 
 pub kinds_known_only : Only 1 kinds_known_kinds.ps kinds_known_kinds.r kinds_known_reads.Post
 kinds_known_only κs a x y s t p q = p ∙ sym q

@@ -11,11 +11,11 @@ abbrev pub rows_at : ℕ → ℕ → Result Rows Refusal
 rows_at count start = Ok (record { count = count; start = start })
 
 -- Of a sheet that reads how many rows there are, and where the first starts, which is how long the note is; both 0 where it is refused.
-abbrev pub count_of : Result Rows Refusal → ℕ
+abbrev pub count_of : {E : Type 0} → Result Rows E → ℕ
 count_of (Ok rows) = rows.count
 count_of (Err refusal) = 0
 
-abbrev pub start_of : Result Rows Refusal → ℕ
+abbrev pub start_of : {E : Type 0} → Result Rows E → ℕ
 start_of (Ok rows) = rows.start
 start_of (Err refusal) = 0
 

@@ -16,14 +16,14 @@ pub struct Rows {
 }
 
 // How many rows there are: none where the sheet is refused.
-pub fn count(reading: Result<Rows, Refusal>) -> usize
+pub fn count<E: Copy>(reading: Result<Rows, E>) -> usize
     ensures { result ≡ count_of reading }
 {
     reading.map_or(0, |rows| rows.count)
 }
 
 // Where the first row starts, which is how long the note is: 0 where the sheet is refused.
-pub fn start(reading: Result<Rows, Refusal>) -> usize
+pub fn start<E: Copy>(reading: Result<Rows, E>) -> usize
     ensures { result ≡ start_of reading }
 {
     reading.map_or(0, |rows| rows.start)

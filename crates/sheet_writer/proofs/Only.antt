@@ -11,5 +11,5 @@ use Rattle.sheet_writer.proofs.length.Reads as length
 pub write_only : OnlyRoom 3 write_kinds.ps write_kinds.r (λ κs s. s.1.1.0.now) write.Post
 write_only κs a x y s t p q = (p.0 ∙ sym q.0, p.1 ∙ sym q.1)
 
-pub length_only : Only 0 length_kinds.ps length_kinds.r length.Post
-length_only κs a x y s t p q = p ∙ sym q
+pub length_only : (E : _) (laws : _) (copy : _) (clone : _) (d : _) → Only 1 (length_kinds.ps E laws copy) (length_kinds.r E laws copy) (length.Post E laws copy clone d)
+length_only E laws copy clone d κs a x y s t p q = p ∙ sym q

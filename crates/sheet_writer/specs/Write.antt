@@ -7,7 +7,7 @@ use Rattle.versions.specs.Versions.{allowed, version_for}
 use Rattle.sheet.specs.Rows.{kinds_known}
 
 -- Of a sheet that is written its length, 0 where it is refused.
-abbrev pub length_of : Result ℕ Refusal → ℕ
+abbrev pub length_of : {E : Type 0} → Result ℕ E → ℕ
 length_of (Ok n) = n
 length_of (Err refusal) = 0
 

@@ -12,7 +12,7 @@ use text::Line;
 use versions::{allowed, version_for};
 
 // The sheet's length: 0 where it is refused.
-pub fn length(writing: Result<usize, Refusal>) -> usize
+pub fn length<E: Copy>(writing: Result<usize, E>) -> usize
     ensures { result ≡ length_of writing }
 {
     writing.unwrap_or(0)

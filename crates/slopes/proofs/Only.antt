@@ -25,5 +25,5 @@ by_p_and_t_only κs a x y s t p q = p ∙ sym q
 pub by_v_and_t_only : Only 0 by_v_and_t_kinds.ps by_v_and_t_kinds.r by_v_and_t.Post
 by_v_and_t_only κs a x y s t p q = p ∙ sym q
 
-pub value_only : Only 0 value_kinds.ps value_kinds.r value.Post
-value_only κs a x y s t p q = p ∙ sym q
+pub value_only : (E : _) (laws : _) (copy : _) (clone : _) (d : _) → Only 1 (value_kinds.ps E laws copy) (value_kinds.r E laws copy) (value.Post E laws copy clone d)
+value_only E laws copy clone d κs a x y s t p q = p ∙ sym q

@@ -3,11 +3,9 @@
 ghost use Rattle.std.specs.Prelude.{◌≡◌};
 ghost use Rattle.slopes.specs.Answers.{value_of};
 
-use refusals::Refusal;
-
 // Its value, which a refusal lacks. By cases and not `ok`, since the edits `value_turned` and
 // `refusal_valued` are a wrong case each.
-pub fn value(answer: Result<f64, Refusal>) -> Option<f64>
+pub fn value<E: Copy>(answer: Result<f64, E>) -> Option<f64>
     ensures { result ≡ value_of answer }
 {
     match answer {

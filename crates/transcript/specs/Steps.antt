@@ -12,6 +12,7 @@ use Rattle.records.specs.declared.Deed.{Deed}
 use Rattle.records.specs.declared.Deed.TheVariants.{Asked, Turns, Given, Shown}
 use Rattle.records.specs.Records.{record_bytes, desk_bytes, desk_in, deed_of}
 use Rattle.call_lines.specs.Lines.{call_line}
+use Rattle.refusals.specs.Refusals.{number_of}
 use Rattle.desk_lines.specs.Lines.{shown_lines}
 use Rattle.turns.specs.declared.Turned.{Turned}
 use Rattle.turns.specs.Turns.{turns_of}
@@ -56,7 +57,7 @@ abbrev pub turns_text : ℕ → Turned → List ℕ
 turns_text number t = turns_line number (number_if t.refusal) t.halved t.idle
 
 unfoldable pub text_of : ℕ → Desk → Option Deed → List ℕ
-text_of number d (Some (Asked call)) = call_line number call (outcome_of d call).answer
+text_of number d (Some (Asked call)) = call_line number_of number call (outcome_of d call).answer
 text_of number d (Some (Turns n)) = turns_text number (turns_of n d)
 text_of number d (Some Given) = given_line number
 text_of number d (Some Shown) = shown_lines number d

@@ -5,10 +5,12 @@
 
 ghost use Rattle.std.specs.Prelude.{◌≡◌, ◌≤◌, min, length, drop};
 ghost use Rattle.text.specs.Room.{Whole};
+ghost use Rattle.refusals.specs.Refusals.{number_in};
 ghost use Rattle.sheet_writer.specs.Write.{write_of};
 ghost use Rattle.listing.specs.Listings.{longest};
 ghost use Rattle.written.specs.Written.{answer_text, written_text};
 
+use refusals::Refusal;
 use std::io;
 use text::Line;
 
@@ -30,17 +32,26 @@ fn behind(parts: &[u8]) -> &[u8]
     if n < 16 { &parts[n..] } else { &parts[16..] }
 }
 
+// The number of what refuses a sheet's writing, 0 where it is written. A call of its own, so that an edit can be
+// wrong of these answers and of no other.
+fn refused_by(writing: Result<usize, Refusal>) -> u64
+    ensures { result ≡ number_in writing }
+{
+    refusals::number(writing)
+}
+
 // Writes the sheet of a note and rows, or `refused N`, whole: of the room, which holds the longest
 // sheet, so many bytes may be used for the sheet.
 fn answered(note: &[u8], rows: &[u8], most: usize, room: &mut [u8]) -> usize
     requires { (most ≤ longest) × (length room.old ≡ longest) }
     ensures { Whole room.new (answer_text note.now rows.now (write_of note.now rows.now most)) result }
 {
-    match sheet_writer::write(note, rows, &mut room[..most]) {
-        Ok(length) => length,
-        Err(refusal) => {
+    let writing = sheet_writer::write(note, rows, &mut room[..most]);
+    match writing {
+        Ok(_) => sheet_writer::length(writing),
+        Err(_) => {
             let mut line = Line::new(room, 0);
-            row_lines::refused(refusal.number(), &mut line);
+            row_lines::refused(refused_by(writing), &mut line);
             line.end()
         }
     }

@@ -10,13 +10,13 @@ use Rattle.call_lines.proofs.Pieces.{of_given}
 use Rattle.call_lines.proofs.answered.Goals as goal
 
 pub returns-in-Ok : goal.returns-in-Ok
-returns-in-Ok c =
-    said_line (of_given c.args.call _ ∙ ap (answer_of c.args.call) (sym c.in-Ok.is)) c.handed.ensures
+returns-in-Ok g c =
+    said_line (of_given _ c.args.call _ ∙ ap (answer_of _ c.args.call) (sym c.in-Ok.is)) c.handed.ensures
 
 pub returns-in-Err : goal.returns-in-Err
 unfolding answer_of handed_of
-returns-in-Err c =
+returns-in-Err g c =
     let a = c.args in
     said_line
-    (ap (λ (n : ℕ). decimal_of n ++ line_of (replicate (width_of a.call) (45 ∷ []))) c.number.ensures ∙ ap (answer_of a.call) (sym c.in-Err.is))
+    (ap (λ (n : ℕ). decimal_of n ++ line_of (replicate (width_of a.call) (45 ∷ []))) c.as_number.ensures ∙ ap (answer_of _ a.call) (sym c.in-Err.is))
     c.refused.ensures

@@ -6,5 +6,5 @@ use Rattle.call_lines.proofs.Pieces.{of_call}
 use Rattle.call_lines.proofs.told.Goals as goal
 
 pub returns : goal.returns
-returns c =
-    reads (lent (search rules) c.end.ensures c.new-line.ensures.start (then_line c.named.ensures c.answered.ensures)) (of_call _ _ _)
+returns g c =
+    reads (lent (search rules) c.end.ensures c.new-line.ensures.start (then_line c.named.ensures c.answered.ensures)) (of_call _ _ _ _)

@@ -6,4 +6,4 @@ use Rattle.quotients.proofs.head.Goals as goal
 pub returns : goal.returns
 returns c =
     let room = c.quotients_head-arg-1.given.0.1 in
-    uncut c.quotients_head.ensures (rw room (quotients_head_fits _))
+    uncut c.quotients_head.ensures (rw room (quotients_head_fits _ _))

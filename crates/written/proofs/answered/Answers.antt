@@ -10,6 +10,8 @@ use Rattle.std.proofs.Common.{rules}
 use Rattle.text.proofs.Pieces.{uncut}
 use Rattle.text.proofs.Lines.{lent}
 use Rattle.row_lines.proofs.Fits.{refused_short}
+use Rattle.refusals.specs.Refusals.{number_in}
+use Rattle.sheet_writer.specs.Write.{length_of}
 use Rattle.written.proofs.Laws.{answered, refusal, room_kept}
 use Rattle.written.proofs.answered.Goals as goal
 
@@ -23,10 +25,11 @@ slice_bounds-write-end-2 c = sym (length-take-le c.args.most c.args.room.now (om
 pub returns-in-Ok : goal.returns-in-Ok
 returns-in-Ok c =
     let a = c.args in
-    answered a.note.now a.rows.now (take a.most a.room.now) (drop a.most a.room.now)
+    subst (Whole _ _) (ap length_of (sym c.in-Ok.is) ∙ sym c.length.ensures)
+    (answered a.note.now a.rows.now (take a.most a.room.now) (drop a.most a.room.now)
     (length-take-le a.most a.room.now (omega arith))
-    (sym c.in-Ok.is ∙ c.write.ensures.0)
-    c.write.ensures.1
+    (sym c.in-Ok.is ∙ c.write-writing.ensures.0)
+    c.write-writing.ensures.1)
 
 pub returns-in-Err : goal.returns-in-Err
 returns-in-Err c =
@@ -35,9 +38,9 @@ returns-in-Err c =
     let note = c.args.note.now in
     let rows = c.args.rows.now in
     let size = length-take-le most room (omega arith) in
-    let answer = sym c.in-Err.is ∙ c.write.ensures.0 in
-    let kept = room_kept note rows (take most room) answer c.write.ensures.1 in
-    let whole = length-append c.write.new.out (drop most room) in
+    let answer = sym c.in-Err.is ∙ c.write-writing.ensures.0 in
+    let kept = room_kept note rows (take most room) answer c.write-writing.ensures.1 in
+    let whole = length-append c.write-writing.new.out (drop most room) in
     reads_whole
-    (refusal note rows (take most room) size answer c.number.ensures)
-    (uncut (lent (search rules) c.end.ensures c.new-line.ensures.start c.refused.ensures) (omega (arith, refused_short c.number.result, whole, ap length kept, size, length-drop most room, c.requires.1)))
+    (refusal note rows (take most room) size answer (c.refused_by.ensures ∙ ap number_in c.in-Err.is))
+    (uncut (lent (search rules) c.end.ensures c.new-line.ensures.start c.refused.ensures) (omega (arith, refused_short c.refused_by.result, whole, ap length kept, size, length-drop most room, c.requires.1)))

@@ -17,10 +17,10 @@ stands {a} {b} {b'} {s} e x = subst (Writes a s) (sym e) x
 
 pub returns : goal.returns
 unfolding quotients_head
-returns c =
+returns g c =
     elim c.match-reading.branch [
       | in-Err w ↦
           lent (search rules) c.end.ensures c.new-line.ensures.start
-          (stands w.line-is (said_line (ap refused_line w.number.ensures ∙ ap quotients_head (sym w.in-Err.is)) w.refused.ensures))
+          (stands w.line-is (said_line (ap refused_line w.as_number.ensures ∙ ap (quotients_head _) (sym w.in-Err.is)) w.refused.ensures))
       | in-Ok w ↦ lent (search rules) c.end.ensures c.new-line.ensures.start (stands w.line-is (reads_line w.bytes.ensures (rw w.in-Ok.is refl)))
     ]

@@ -13,7 +13,7 @@ pub loop-k-preserved : goal.loop-k-preserved
 loop-k-preserved c =
     let a = c.args in
     let k = c.loop-k.k in
-    turned_line (line_at a.listing a.sheet.now a.rows.start) k c.loop-k.invariant (reads_line c.row_line.ensures (ap (row_line a.listing (k + 1)) c.row-row.ensures))
+    turned_line (line_at a.listing a.sheet.now a.start) k c.loop-k.invariant (reads_line c.row_line.ensures (ap (row_line a.listing (k + 1)) c.row-row.ensures))
 
 pub returns : goal.returns
 returns c = let l = c.loop-k in ended_line _ l.auto.k-end c.loop-k-test.false l.invariant

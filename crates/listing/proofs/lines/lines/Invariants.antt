@@ -6,4 +6,4 @@ use Rattle.listing.specs.Listings.{line_at}
 use Rattle.listing.proofs.lines.lines.Given as goal
 
 abbrev pub invariant-loop-k : goal.invariant-loop-k
-invariant-loop-k l = Writes l.initial.line (joined (line_at l.listing l.sheet l.fn.rows.start) l.k) l.line
+invariant-loop-k l = Writes l.initial.line (joined (line_at l.listing l.sheet l.start) l.k) l.line

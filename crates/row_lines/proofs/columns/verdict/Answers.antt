@@ -11,5 +11,5 @@ unfolding verdict_of
 returns c =
     let end = c.args.end in
     then_line
-    (then_line (then_line c.decimal.ensures c.decimal-2.ensures) (said_line (ap (λ (n : ℕ). number_column n blank) c.number.ensures) c.decimal-3.ensures))
+    (then_line (then_line c.decimal.ensures c.decimal-2.ensures) (said_line (ap (λ (n : ℕ). number_column n blank) c.refused_by.ensures) c.decimal-3.ensures))
     (said_line (ap (λ (n : ℕ). number_column n end) c.region.ensures) c.decimal-4.ensures)

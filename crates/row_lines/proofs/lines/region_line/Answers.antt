@@ -5,10 +5,11 @@ use Rattle.reply.specs.declared.Answer.{Answer}
 use Rattle.refusals.specs.declared.Refusal.{Refusal}
 use Rattle.std.proofs.Common.{Result}
 use Rattle.text.specs.Texts.{newline}
+use Rattle.refusals.specs.Refusals.{number_of}
 use Rattle.row_lines.specs.Lines.{verdict_of}
 use Rattle.row_lines.proofs.lines.region_line.Goals as goal
 
 pub returns : goal.returns
 returns c =
     let a = c.args in
-    said_line (ap (λ (x : Result Answer Refusal). verdict_of a.number a.row.kind x newline) c.asked.ensures) c.verdict.ensures
+    said_line (ap (λ (x : Result Answer Refusal). verdict_of number_of a.number a.row.kind x newline) c.asked.ensures) c.verdict.ensures

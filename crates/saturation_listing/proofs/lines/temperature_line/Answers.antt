@@ -16,6 +16,6 @@ returns c =
     (ap (answer_line c.args.number) c.saturation-a.ensures)
     (then_line
     (then_line
-    (then_line c.decimal.ensures (reads_line c.decimal-2.ensures (ap (λ (n : ℕ). number_column n blank) c.number-refusal.ensures)))
+    (then_line c.decimal.ensures (reads_line c.decimal-2.ensures (ap (λ (n : ℕ). number_column n blank) c.refused_by-refusal.ensures)))
     (reads_line c.decimal-3.ensures (ap (λ (n : ℕ). number_column n blank) c.place-place.ensures)))
     (reads_line c.column.ensures (ap (λ (x : Option Float). column_of x ++ newline ∷ []) c.value.ensures)))

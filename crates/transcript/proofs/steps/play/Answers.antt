@@ -8,6 +8,7 @@ use Rattle.runs.specs.declared.Outcome.{Outcome}
 use Rattle.transcript.specs.declared.Step.{Step}
 use Rattle.turns.specs.declared.Turned.{Turned}
 use Rattle.call_lines.specs.Lines.{call_line}
+use Rattle.refusals.specs.Refusals.{number_of}
 use Rattle.transcript.specs.Lines.{turns_line, given_line, bad_line}
 use Rattle.transcript.specs.Steps.{desk_after, taken_by, turns_text, text_of}
 use Rattle.transcript.proofs.steps.play.Goals as goal
@@ -23,7 +24,7 @@ returns-in-Some-Asked c =
         desk = ap (λ (s : Step). s.desk) r ∙ ap (λ (o : Outcome). o.desk) c.asked-o.ensures ∙ ap (desk_after a.rest.now a.d) e;
         taken = ap (λ (s : Step). s.taken) r ∙ ap (taken_by a.rest.now) e;
       },
-      behind (sym (ap (λ (s : Step). s.end) r)) (said (ap (λ (o : Outcome). call_line a.number call o.answer) c.asked-o.ensures ∙ ap (text_of a.number a.d) e) c.told-end.ensures),
+      behind (sym (ap (λ (s : Step). s.end) r)) (said (ap (λ (o : Outcome). call_line number_of a.number call o.answer) c.asked-o.ensures ∙ ap (text_of a.number a.d) e) c.told-end.ensures),
     )
 
 pub returns-in-Some-Turns : goal.returns-in-Some-Turns
